@@ -1,0 +1,2 @@
+-- What the definitions of every crate above are written with.
+pub mod Below
