@@ -1,14 +1,13 @@
 -- The laws of the calendar. The step rule, tested over a whole table, gives each of its entries. Months begin one after the other, so a
--- time has one month, and the search of the definition finds it.
+-- time has one month, and the definition gives it.
 -- Assumes nothing.
 use mathlib.Core.Path.{_≡_, refl, sym, ap, _∙_}
 use mathlib.Core.Bool.{Bool, true, false, cond, _&&_, _||_}
 use mathlib.Core.List.{List, [], _∷_}
 use Prim.Native.Nat.{ℕ, zero, suc, _+_, _*_, _/_, _%_, _≤_, _<_}
 use native.Mathlib.Nat.{not-suc-le-zero, le-of-suc-le-suc, add-suc, suc-add, add-zero, zero-add}
-use native.Mathlib.Numerals.{add-one}
 use native.Mathlib.Omega.{arith}
-use lib.Dec.{T, leb, ltb, eqb, lit≤, lit<}
+use lib.Dec.{T, leb, ltb, eqb, lit<}
 use lib.ListN.{length, getD}
 use borrow.Author.Tests.{leb-true, leb-false, ltb-true, ltb-false, eqb-true, eq-eqb, ne-eqb}
 use Rattle.ground.proofs.Flags.{Either, is-true, is-false, either-of, and-left, and-right, of-T}
@@ -17,7 +16,7 @@ use Rattle.calendar.specs.Calendar.{secondsPerDay, monthsBeginAt, lastMo
 
 -- The table
 
--- each entry after the one at place i is the one before plus the days of its month
+-- from an entry a at place i on, each next entry is the one before plus the days of its month
 abbrev pub steps : ℕ → ℕ → List ℕ → Bool
 steps i a [] = true
 steps i a (x ∷ xs) = eqb x (a + daysOf i) && steps (suc i) x xs
@@ -94,7 +93,7 @@ start-next (suc m) = omega (arith, days-some (suc m))
 pub start-le : (n m : ℕ) → m ≤ n → monthStart m ≤ monthStart n
 start-le n m l = keeps monthStart start-next n m l
 
--- The search of the definition
+-- The last month that has begun
 
 pick-start : (t m n : ℕ) (b : Bool) → leb (monthStart m) t ≡ b → monthStart n ≤ t → monthStart (cond b m n) ≤ t
 pick-start t m n true e l = leb-true (monthStart m) t e

@@ -23,7 +23,7 @@ fn wide(day: u16) -> u64
     day as u64
 }
 
-// The table, with its law: every entry is the Gregorian day number.
+// The table, with its law: every entry is the first day by the Gregorian rule.
 fn month_starts() -> [u16; 1201]
     ensures { λ r. ⌜ FirstDays r ⌝ }
 {

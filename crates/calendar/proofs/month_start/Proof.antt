@@ -4,7 +4,7 @@ use mathlib.Core.Path.{_∙_, ap, sym}
 use Prim.Native.Nat.{ℕ, _+_, _*_}
 use native.Mathlib.Omega.{arith}
 use borrow.Author.Needs.{needs}
-use Rattle.calendar.specs.Calendar.{secondsPerDay, monthsBeginAt, lastMonth, monthStart}
+use Rattle.calendar.specs.Calendar.{secondsPerDay, monthsBeginAt, monthStart}
 use Rattle.calendar.proofs.Months.{day-le, day-last, start-later}
 use Rattle.calendar.proofs.month_start.Statement.{statement}
 use Rattle.calendar.proofs.month_start.Tie as tie
