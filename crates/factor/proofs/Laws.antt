@@ -1,0 +1,91 @@
+-- What the factor keeps of the exact fraction p·Tb·10^9 / (pb·T·K), how small and how large it gets, and three cases by hand.
+-- Assumes nothing.
+use mathlib.Core.Path.{_≡_, refl}
+use mathlib.Core.Bool.{true, false}
+use Prim.Native.Nat.{ℕ, _+_, _*_, _≤_, _<_}
+use native.Mathlib.Nat.{add-mul, div-lt-iff-lt-mul, le-div-iff-mul-le}
+use native.Mathlib.Omega.{arith}
+use Rattle.ground.proofs.Flags.{Either, is-true, is-false, either-of}
+use Rattle.factor.specs.Factor.{numerator, denominator, nearestFraction, factorOf, inRange, inRanges, factorTaken}
+use Rattle.factor.proofs.Division.{half-unit, nearest-only, halves-up}
+use Rattle.factor.proofs.Ranges.{products}
+
+-- the ends that the ranges set to the factor; both are reached
+abbrev pub leastFactor : ℕ
+leastFactor = 2624
+
+abbrev pub mostFactor : ℕ
+mostFactor = 38264831
+
+module _ (p tb pb t k : ℕ) where
+  -- inside the ranges the factor taken is the factor; outside it is 0
+  pub taken : inRanges p tb pb t k ≡ true → factorTaken p tb pb t k ≡ factorOf p tb pb t k
+  unfolding factorTaken
+  taken e = rw e
+
+  pub not-taken : inRanges p tb pb t k ≡ false → factorTaken p tb pb t k ≡ 0
+  unfolding factorTaken
+  not-taken e = rw e
+
+  -- twice the gap between the factor times pb·T·K and the numerator is at most pb·T·K
+  pub within-half : inRanges p tb pb t k ≡ true → (2 * (factorOf p tb pb t k * denominator pb t k) ≤ 2 * numerator p tb + denominator pb t k) × (2 * numerator p tb ≤ 2 * (factorOf p tb pb t k * denominator pb t k) + denominator pb t k)
+  unfolding factorOf
+  within-half e =
+      let d = denominator pb t k in
+      let h = half-unit (numerator p tb) d (omega (arith, products p tb pb t k e .bottom .least)) in
+      (h .0, omega (arith, h .1, add-mul (nearestFraction (numerator p tb) d) 1 d))
+
+  -- a fraction just between q and q + 1 gives q + 1
+  pub half-goes-up : (q : ℕ) → inRanges p tb pb t k ≡ true → 2 * numerator p tb ≡ (2 * q + 1) * denominator pb t k → factorOf p tb pb t k ≡ q + 1
+  unfolding factorOf
+  half-goes-up q e h = halves-up (numerator p tb) (denominator pb t k) q (omega (arith, products p tb pb t k e .bottom .least)) h
+
+  -- no other number is within half a unit, the upper half excluded
+  pub factor-only : (f : ℕ) → 2 * (f * denominator pb t k) ≤ 2 * numerator p tb + denominator pb t k → 2 * numerator p tb + denominator pb t k < 2 * ((f + 1) * denominator pb t k) → f ≡ factorOf p tb pb t k
+  unfolding factorOf
+  factor-only f a b = nearest-only (numerator p tb) (denominator pb t k) f a b
+
+  -- the least and the most that the ranges let it be
+  pub factor-least : inRanges p tb pb t k ≡ true → leastFactor ≤ factorOf p tb pb t k
+  unfolding factorOf nearestFraction
+  factor-least e =
+      let r = products p tb pb t k e in
+      let o : 0 < 2 * denominator pb t k = omega arith in
+      le-div-iff-mul-le o .1 (omega arith)
+
+  pub factor-most : inRanges p tb pb t k ≡ true → factorOf p tb pb t k ≤ mostFactor
+  unfolding factorOf nearestFraction
+  factor-most e =
+      let r = products p tb pb t k e in
+      let o : 0 < 2 * denominator pb t k = omega arith in
+      let h : factorOf p tb pb t k < mostFactor + 1 = div-lt-iff-lt-mul o .1 (omega arith) in
+      omega arith
+
+  -- so whatever is asked, the factor taken is no larger
+  pub taken-most : factorTaken p tb pb t k ≤ mostFactor
+  taken-most = most (either-of (inRanges p tb pb t k))
+    where
+      most : Either (inRanges p tb pb t k) → factorTaken p tb pb t k ≤ mostFactor
+      most (is-true e) = rw (taken e) (factor-most e)
+      most (is-false e) = rw (not-taken e) (omega arith)
+
+pub least-reached : factorTaken 10000 27315 110000 47315 20000 ≡ leastFactor
+unfolding factorTaken inRanges inRange factorOf nearestFraction
+least-reached = refl
+
+pub most-reached : factorTaken 10000000 29815 90000 17315 5000 ≡ mostFactor
+unfolding factorTaken inRanges inRange factorOf nearestFraction
+most-reached = refl
+
+-- cases by hand: p = pb, T = Tb, K = 1; twice the pressure at 20.00 °C; a half
+pub case-1 : factorTaken 101325 27315 101325 27315 10000 ≡ 100000
+unfolding factorTaken inRanges inRange factorOf nearestFraction
+case-1 = refl
+
+pub case-2 : factorTaken 202650 27315 101325 29315 10000 ≡ 186355
+unfolding factorTaken inRanges inRange factorOf nearestFraction
+case-2 = refl
+
+pub case-3 : factorTaken 100001 27315 100000 27315 20000 ≡ 50001
+unfolding factorTaken inRanges inRange factorOf nearestFraction
+case-3 = refl

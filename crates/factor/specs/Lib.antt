@@ -1,0 +1,2 @@
+-- What the factor is.
+pub mod Factor

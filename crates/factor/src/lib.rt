@@ -1,0 +1,71 @@
+// The conversion factor C = (p/pb)·(Tb/T)·(1/K), in hundred-thousandths, to the nearest whole number.
+// The fraction's numerator passes 64 bits, so it is divided in two steps, as by hand.
+ghost use mathlib.Core.Path.{_≡_};
+ghost use mathlib.Core.Bool.{true};
+ghost use Prim.Native.Nat.{_*_, _≤_};
+ghost use Rattle.factor.specs.Factor.{inRange, inRanges, nearestFraction, factorOf, factorTaken};
+
+// K comes in ten-thousandths: the number that stands for K = 1, and the ends of the range of K.
+const K_SCALE: u64 = 10000;
+
+const LEAST_K: u64 = 5000;
+
+const MOST_K: u64 = 20000;
+
+// The second step of the division; the first takes all of the numerator but this.
+const SECOND_STEP: u64 = 1000;
+
+const FIRST_STEP: u64 = 100 * K_SCALE;
+
+fn in_range(low: u64, high: u64, x: u64) -> bool
+    ensures { λ r. ⌜ r ≡ inRange low high x ⌝ }
+{
+    let not_below = low <= x;
+    let not_above = x <= high;
+    ground::both(not_below, not_above)
+}
+
+fn in_ranges(p: u64, tb: u64, pb: u64, t: u64, k: u64) -> bool
+    ensures { λ r. ⌜ r ≡ inRanges p tb pb t k ⌝ }
+{
+    let p_good = in_range(10000, 10000000, p);
+    let tb_good = in_range(27315, 29815, tb);
+    let pb_good = in_range(90000, 110000, pb);
+    let t_good = in_range(17315, 47315, t);
+    let k_good = in_range(LEAST_K, MOST_K, k);
+    let last_two = ground::both(t_good, k_good);
+    let last_three = ground::both(pb_good, last_two);
+    let last_four = ground::both(tb_good, last_three);
+    ground::both(p_good, last_four)
+}
+
+// Nearest to x·1000/d, halves up.
+fn nearest(x: u64, d: u64) -> u64
+    requires { ⌜ (2000 ≤ d) × (d ≤ 9000000000000000) ⌝ }
+    ensures { λ r. ⌜ r ≡ nearestFraction (x * 1000) d ⌝ }
+{
+    let q1 = x / d;
+    let r1 = x % d;
+    let b = r1 * SECOND_STEP;
+    let q2 = b / d;
+    let r2 = b % d;
+    let q = q1 * SECOND_STEP + q2;
+    if d <= 2 * r2 { q + 1 } else { q }
+}
+
+fn factor(p: u64, tb: u64, pb: u64, t: u64, k: u64) -> u64
+    requires { ⌜ inRanges p tb pb t k ≡ true ⌝ }
+    ensures { λ r. ⌜ r ≡ factorOf p tb pb t k ⌝ }
+{
+    let x = p * tb * FIRST_STEP;
+    let d = pb * t * k;
+    nearest(x, d)
+}
+
+// The factor of a cycle; 0 where an input is outside its range, which a whole device never asks.
+pub fn factor_taken(p: u64, tb: u64, pb: u64, t: u64, k: u64) -> u64
+    ensures { λ r. ⌜ r ≡ factorTaken p tb pb t k ⌝ }
+{
+    let good = in_ranges(p, tb, pb, t, k);
+    if good { factor(p, tb, pb, t, k) } else { 0 }
+}
