@@ -1,0 +1,2 @@
+-- The settings: their table, which values fit, and the rights.
+pub mod Settings

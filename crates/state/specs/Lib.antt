@@ -1,0 +1,3 @@
+-- The state, and the order of refusals.
+pub mod State
+pub mod Card

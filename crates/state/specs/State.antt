@@ -1,0 +1,101 @@
+-- The state of a corrector: as it starts, and when it is whole. Document 01, "Number on the fault card", its last paragraph.
+-- Assumes nothing.
+use Prim.Native.Nat.{ℕ}
+use mathlib.Core.Bool.{Bool, true, false, not, cond, _&&_, _||_}
+use mathlib.Core.List.{List, [], _∷_}
+use lib.ListN.{getD, replicate}
+use lib.IntN.{pos}
+use lib.Dec.{ltb, leb, eqb}
+use Rattle.ground.specs.Below.{allBelow}
+use Rattle.units.specs.Units.{litresRollover, baseRollover}
+use Rattle.settings.specs.Settings.{settingCount, fitsB, settingsFitB, orderedB, factorySettings}
+use Rattle.settings.specs.declared.Setting.{Setting}
+use Rattle.settings.specs.declared.Value.the-variants.{Whole}
+use Rattle.calendar.specs.Calendar.{endOfTime, monthOf}
+use Rattle.ring.specs.declared.Ring.{Ring}
+use Rattle.ring.specs.declared.Book.{Book}
+use Rattle.ring.specs.Ring.{archiveLines, logLines, auditLines, logStep, auditStep, ringAfter, bookAfter, ringB, bookB}
+use Rattle.state.specs.declared.Counters.{Counters}
+use Rattle.state.specs.declared.Alarms.{Alarms}
+use Rattle.state.specs.declared.Locks.{Locks}
+use Rattle.state.specs.declared.Cell.{Cell}
+use Rattle.state.specs.declared.Session.{Session}
+use Rattle.state.specs.declared.Core.{Core}
+use Rattle.state.specs.declared.State.{State}
+
+-- ---- a fresh device
+
+abbrev pub blankCell : Cell
+blankCell = record { staged = false; value = Whole (pos 0); read = false; overtaken = false }
+
+-- a door with no session: nothing staged, nothing read
+unfoldable pub noSession : Session
+noSession = record { live = false; cells = replicate settingCount blankCell }
+
+unfoldable pub noAlarm : Alarms
+noAlarm = record { p = false; t = false; k = false }
+
+unfoldable pub nothingCounted : Counters
+nothingCounted = record { vm = record { 0 = 0 }; vmd = record { 0 = 0 }; vb = record { 0 = 0 }; vbd = record { 0 = 0 } }
+
+unfoldable pub shutLocks : ℕ → ℕ → Locks
+shutLocks supcode custcode = record { cal = false; sup = false; cust = false; supcode = supcode; custcode = custcode }
+
+-- counters 0, settings factory, no alarm or latch, no line held; the start time is the last accepted time until a cycle is accepted
+unfoldable pub freshCore : ℕ → Locks → Core
+freshCore time locks = record {
+  time = time;
+  month = monthOf time;
+  counters = nothingCounted;
+  alarms = noAlarm;
+  latches = noAlarm;
+  locks = locks;
+  settings = factorySettings;
+  archive = ringAfter archiveLines 0;
+  log = bookAfter logLines 0;
+  audit = bookAfter auditLines 0;
+}
+
+-- the locks are shut when fresh, and no session stands
+unfoldable pub fresh : ℕ → ℕ → ℕ → State
+fresh time supcode custcode = record { core = freshCore time (shutLocks supcode custcode); keypad = noSession; port = noSession }
+
+-- ---- when a state is whole
+
+-- counters are in range
+unfoldable pub countersB : Counters → Bool
+countersB c = ltb (c .vm .0) litresRollover && ltb (c .vmd .0) litresRollover && ltb (c .vb .0) baseRollover && ltb (c .vbd .0) baseRollover
+
+-- each present alarm is latched
+unfoldable pub latchedB : Alarms → Alarms → Bool
+latchedB present latch = (not (present .p) || latch .p) && (not (present .t) || latch .t) && (not (present .k) || latch .k)
+
+-- what the state says of each store is what some number of lines written to it from fresh would give (the law that it is
+-- stands with the rings)
+unfoldable pub storesB : Ring → Book → Book → Bool
+storesB archive log audit = ringB archiveLines archive && bookB logLines logStep log && bookB auditLines auditStep audit
+
+-- of setting k + 1 in a session: a staged value is in range; one marked as put in force through the other door also counts as read; a door
+-- with no session has nothing staged or read
+unfoldable pub cellB : Bool → ℕ → Cell → Bool
+cellB live k c = (not (c .staged) || fitsB k (c .value)) && (not (c .overtaken) || c .read) && (not (c .staged || c .read) || live)
+
+unfoldable pub cellsB : Bool → List Cell → ℕ → Bool
+cellsB live cells k = cellB live k (getD cells k blankCell)
+
+unfoldable pub sessionB : Session → Bool
+sessionB x = allBelow (cellsB (x .live) (x .cells)) settingCount
+
+-- time, settings and counters are in range, the pairs are in order, each present alarm is latched, the month fits the time, the stores
+unfoldable pub coreB : Core → Bool
+coreB c =
+    ltb (c .time) endOfTime && settingsFitB (c .settings) && orderedB (c .settings) && countersB (c .counters)
+    && latchedB (c .alarms) (c .latches) && eqb (c .month) (monthOf (c .time)) && storesB (c .archive) (c .log) (c .audit)
+
+unfoldable pub wholeB : State → Bool
+wholeB s = coreB (s .core) && sessionB (s .keypad) && sessionB (s .port)
+
+-- ---- a state with another core
+
+unfoldable pub withCore : State → Core → State
+withCore s c = record { core = c; keypad = s .keypad; port = s .port }

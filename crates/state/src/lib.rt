@@ -1,0 +1,313 @@
+// The corrector's state: one struct, handed in by value and handed back. What no session holds is the core; each door has its session beside it.
+ghost use mathlib.Core.Path.{_≡_};
+ghost use mathlib.Core.Bool.{not, _||_};
+ghost use lib.ListN.{getD, set};
+ghost use Rattle.state.specs.State.{blankCell, noSession, nothingCounted, noAlarm, shutLocks, freshCore, fresh, cellB, cellsB, sessionB, countersB, latchedB, storesB, coreB, wholeB, withCore};
+ghost use Rattle.ground.specs.Below.{allBelow};
+ghost use Rattle.settings.specs.Settings.{settingCount};
+
+// Vm, VmD, Vb, VbD.
+pub struct Counters {
+    pub vm: units::Litres,
+    pub vmd: units::Litres,
+    pub vb: units::BaseUnits,
+    pub vbd: units::BaseUnits,
+}
+
+// One flag for each alarm: pressure, temperature, K.
+pub struct Alarms {
+    pub p: bool,
+    pub t: bool,
+    pub k: bool,
+}
+
+// Which of the three locks stand open, and the codes of locks 2 and 3.
+pub struct Locks {
+    pub cal: bool,
+    pub sup: bool,
+    pub cust: bool,
+    pub supcode: u32,
+    pub custcode: u32,
+}
+
+// One setting, as a session sees it: what it has staged, if it has; whether it has read it; and whether it was put in force through the
+// other door after that.
+pub struct Cell {
+    pub staged: bool,
+    pub value: settings::Value,
+    pub read: bool,
+    pub overtaken: bool,
+}
+
+pub struct Session {
+    pub live: bool,
+    pub cells: [Cell; settings::COUNT],
+}
+
+// All that is no session.
+pub struct Core {
+    pub time: u64,
+    pub month: u64,
+    pub counters: Counters,
+    pub alarms: Alarms,
+    pub latches: Alarms,
+    pub locks: Locks,
+    pub settings: [settings::Setting; settings::COUNT],
+    pub archive: ring::Ring,
+    pub log: ring::Book,
+    pub audit: ring::Book,
+}
+
+// Door 1 is the keypad, door 2 the optical port.
+pub struct State {
+    pub core: Core,
+    pub keypad: Session,
+    pub port: Session,
+}
+
+// A command's answer where it has no value: the number on the fault card, 0 where done, and the state after it.
+pub struct Answer {
+    pub number: u64,
+    pub state: State,
+}
+
+// ---- a fresh device
+
+pub fn cell_at(a: [Cell; settings::COUNT], k: usize) -> Cell
+    ensures { λ r. ⌜ r ≡ getD a k blankCell ⌝ }
+{
+    if k < settings::COUNT {
+        a[k]
+    } else {
+        Cell {
+            staged: false,
+            value: settings::Value::Whole(0),
+            read: false,
+            overtaken: false,
+        }
+    }
+}
+
+pub fn cell_put(a: [Cell; settings::COUNT], k: usize, x: Cell) -> [Cell; settings::COUNT]
+    ensures { λ r. ⌜ r ≡ set a k x ⌝ }
+{
+    if k < settings::COUNT {
+        let mut b = a;
+        b[k] = x;
+        b
+    } else {
+        a
+    }
+}
+
+pub fn no_session() -> Session
+    ensures { λ r. ⌜ r ≡ noSession ⌝ }
+{
+    let blank = Cell {
+        staged: false,
+        value: settings::Value::Whole(0),
+        read: false,
+        overtaken: false,
+    };
+    Session {
+        live: false,
+        cells: [blank; settings::COUNT],
+    }
+}
+
+fn no_counts() -> Counters
+    ensures { λ r. ⌜ r ≡ nothingCounted ⌝ }
+{
+    Counters {
+        vm: units::Litres(0),
+        vmd: units::Litres(0),
+        vb: units::BaseUnits(0),
+        vbd: units::BaseUnits(0),
+    }
+}
+
+fn no_alarms() -> Alarms
+    ensures { λ r. ⌜ r ≡ noAlarm ⌝ }
+{
+    Alarms {
+        p: false,
+        t: false,
+        k: false,
+    }
+}
+
+fn shut_locks(supcode: u32, custcode: u32) -> Locks
+    ensures { λ r. ⌜ r ≡ shutLocks supcode custcode ⌝ }
+{
+    Locks {
+        cal: false,
+        sup: false,
+        cust: false,
+        supcode: supcode,
+        custcode: custcode,
+    }
+}
+
+fn fresh_core(time: u64, locks: Locks) -> Core
+    ensures { λ r. ⌜ r ≡ freshCore time locks ⌝ }
+{
+    let month = calendar::month_of(time);
+    let counters = no_counts();
+    let none = no_alarms();
+    let factory = settings::factory_settings();
+    let empty = ring::Ring { held: 0, next: 0 };
+    let book = ring::Book {
+        ring: empty,
+        number: 0,
+    };
+    Core {
+        time: time,
+        month: month,
+        counters: counters,
+        alarms: none,
+        latches: none,
+        locks: locks,
+        settings: factory,
+        archive: empty,
+        log: book,
+        audit: book,
+    }
+}
+
+pub fn fresh_state(time: u64, supcode: u32, custcode: u32) -> State
+    ensures { λ r. ⌜ r ≡ fresh time supcode custcode ⌝ }
+{
+    let locks = shut_locks(supcode, custcode);
+    let core = fresh_core(time, locks);
+    let none = no_session();
+    State {
+        core: core,
+        keypad: none,
+        port: none,
+    }
+}
+
+// ---- when a state is whole
+
+fn implies(a: bool, b: bool) -> bool
+    ensures { λ r. ⌜ r ≡ (not a || b) ⌝ }
+{
+    if a { b } else { true }
+}
+
+fn counters_ok(c: Counters) -> bool
+    ensures { λ r. ⌜ r ≡ countersB c ⌝ }
+{
+    let a = units::litres_ok(c.vm);
+    let b = units::litres_ok(c.vmd);
+    let d = units::base_ok(c.vb);
+    let e = units::base_ok(c.vbd);
+    let f = ground::both(a, b);
+    let g = ground::both(f, d);
+    ground::both(g, e)
+}
+
+fn latched_ok(present: Alarms, latch: Alarms) -> bool
+    ensures { λ r. ⌜ r ≡ latchedB present latch ⌝ }
+{
+    let a = implies(present.p, latch.p);
+    let b = implies(present.t, latch.t);
+    let c = implies(present.k, latch.k);
+    let d = ground::both(a, b);
+    ground::both(d, c)
+}
+
+fn stores_ok(archive: ring::Ring, log: ring::Book, audit: ring::Book) -> bool
+    ensures { λ r. ⌜ r ≡ storesB archive log audit ⌝ }
+{
+    let a = ring::ring_ok(ring::ARCHIVE_LINES, archive);
+    let b = ring::book_ok(ring::LOG_LINES, ring::LOG_STEP, log);
+    let c = ring::book_ok(ring::AUDIT_LINES, ring::AUDIT_STEP, audit);
+    let d = ground::both(a, b);
+    ground::both(d, c)
+}
+
+fn cell_ok(live: bool, k: usize, c: Cell) -> bool
+    ensures { λ r. ⌜ r ≡ cellB live k c ⌝ }
+{
+    let v = c.value;
+    let fits = settings::setting_fits(k, v);
+    let a = implies(c.staged, fits);
+    let b = implies(c.overtaken, c.read);
+    let touched = ground::either(c.staged, c.read);
+    let d = implies(touched, live);
+    let e = ground::both(a, b);
+    ground::both(e, d)
+}
+
+fn cells_ok(live: bool, cells: [Cell; settings::COUNT]) -> bool
+    ensures { λ r. ⌜ r ≡ allBelow (cellsB live cells) settingCount ⌝ }
+{
+    let mut good = true;
+    for k in 0..settings::COUNT {
+        let c = cells[k];
+        let fine = cell_ok(live, k, c);
+        let next = ground::both(fine, good);
+        good = next;
+    }
+    good
+}
+
+fn session_ok(x: Session) -> bool
+    ensures { λ r. ⌜ r ≡ sessionB x ⌝ }
+{
+    let cells = x.cells;
+    cells_ok(x.live, cells)
+}
+
+fn core_ok(c: Core) -> bool
+    ensures { λ r. ⌜ r ≡ coreB c ⌝ }
+{
+    let a = c.settings;
+    let time = c.time < calendar::END_OF_TIME;
+    let fit = settings::settings_fit(a);
+    let ordered = settings::pairs_ordered(a);
+    let counters = counters_ok(c.counters);
+    let latched = latched_ok(c.alarms, c.latches);
+    let month = calendar::month_holds(c.month, c.time);
+    let stores = stores_ok(c.archive, c.log, c.audit);
+    let d = ground::both(time, fit);
+    let e = ground::both(d, ordered);
+    let f = ground::both(e, counters);
+    let g = ground::both(f, latched);
+    let h = ground::both(g, month);
+    ground::both(h, stores)
+}
+
+pub fn whole(s: State) -> bool
+    ensures { λ r. ⌜ r ≡ wholeB s ⌝ }
+{
+    let core = s.core;
+    let keypad = s.keypad;
+    let port = s.port;
+    let a = core_ok(core);
+    let b = session_ok(keypad);
+    let c = session_ok(port);
+    let d = ground::both(a, b);
+    ground::both(d, c)
+}
+
+// ---- parts, by value
+
+pub fn core_of(s: State) -> Core
+    ensures { λ r. ⌜ r ≡ s .core ⌝ }
+{
+    s.core
+}
+
+pub fn with_core(s: State, core: Core) -> State
+    ensures { λ r. ⌜ r ≡ withCore s core ⌝ }
+{
+    let keypad = s.keypad;
+    let port = s.port;
+    State {
+        core: core,
+        keypad: keypad,
+        port: port,
+    }
+}
