@@ -1,0 +1,24 @@
+-- K. With Md.K = 0, K = K.F. Otherwise not computed or outside 5,000..20,000: K alarm, and K = K.F.
+-- Assumes nothing.
+use Prim.Native.Nat.{ℕ}
+use mathlib.Core.Bool.{cond}
+use lib.Dec.{eqb}
+use Rattle.readings.specs.declared.Taken.{Taken}
+use Rattle.readings.specs.declared.Compressibility.{Compressibility}
+use Rattle.readings.specs.declared.Compressibility.the-variants.{NotComputed, Computed}
+use Rattle.readings.specs.Taken.{noAlarm, alarmWith, takenWithin}
+
+abbrev pub kLowest : ℕ
+kLowest = 5000
+
+abbrev pub kHighest : ℕ
+kHighest = 20000
+
+-- K.F, and the reading
+unfoldable pub kRead : ℕ → Compressibility → Taken
+kRead fixed NotComputed = alarmWith fixed
+kRead fixed (Computed k) = takenWithin kLowest kHighest fixed k
+
+-- Md.K before them
+unfoldable pub kTaken : ℕ → ℕ → Compressibility → Taken
+kTaken mode fixed reading = cond (eqb mode 0) (noAlarm fixed) (kRead fixed reading)

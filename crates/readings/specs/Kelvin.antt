@@ -1,0 +1,10 @@
+-- T in kelvin: 0.01 °C plus 27,315; 0 for what lies outside -10,000..20,000, which no setting and no T.Mes does.
+-- Assumes nothing.
+use Prim.Native.Nat.{ℕ}
+use mathlib.Core.Bool.{_||_, cond}
+use lib.IntN.{ℤ, pos, _+ℤ_, natAbs}
+use lib.Signed.{ltZ}
+use Rattle.temperature.specs.Nearest.{coldest, hottest}
+
+unfoldable pub kelvinOf : ℤ → ℕ
+kelvinOf t = cond (ltZ t coldest || ltZ hottest t) 0 (natAbs (t +ℤ pos 27315))

@@ -1,0 +1,6 @@
+-- What the contracts of the readings cite.
+pub mod Taken
+pub mod Pressure
+pub mod Compressibility
+pub mod Temperature
+pub mod Kelvin

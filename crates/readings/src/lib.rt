@@ -1,0 +1,169 @@
+// The three readings of a cycle: what is taken for p, T and K, and whether the alarm is present.
+ghost use mathlib.Core.Path.{_≡_};
+ghost use Rattle.readings.specs.Taken.{takenWithin};
+ghost use Rattle.readings.specs.Pressure.{pressureTaken};
+ghost use Rattle.readings.specs.Compressibility.{kTaken};
+ghost use Rattle.readings.specs.Temperature.{temperatureTaken, measuredTaken};
+ghost use Rattle.readings.specs.Kelvin.{kelvinOf};
+
+// What the K board may answer, in ten-thousandths.
+const K_LOWEST: u64 = 5000;
+
+const K_HIGHEST: u64 = 20000;
+
+// The ends of what a temperature may be, and 0 °C in hundredths of a kelvin.
+const COLDEST: i64 = -10000;
+
+const HOTTEST: i64 = 20000;
+
+const ZERO_CELSIUS: i64 = 27315;
+
+pub enum RawTemperature {
+    Failed,
+    Raw(u16),
+}
+
+pub enum Pressure {
+    Failed,
+    Pascals(u64),
+}
+
+pub enum Compressibility {
+    NotComputed,
+    Computed(u64),
+}
+
+// What goes into the factor, and whether the alarm is present in this cycle.
+pub struct Taken {
+    pub alarm: bool,
+    pub value: u64,
+}
+
+pub struct TakenTemperature {
+    pub alarm: bool,
+    pub value: i64,
+}
+
+fn taken_within(lowest: u64, highest: u64, fixed: u64, x: u64) -> Taken
+    ensures { λ r. ⌜ r ≡ takenWithin lowest highest fixed x ⌝ }
+{
+    let low = x < lowest;
+    let high = highest < x;
+    if ground::either(low, high) {
+        return Taken {
+            alarm: true,
+            value: fixed,
+        };
+    }
+    Taken {
+        alarm: false,
+        value: x,
+    }
+}
+
+// Md.p, pMin, pMax and p.F stand before the reading.
+pub fn pressure_taken(mode: u64, lowest: u64, highest: u64, fixed: u64, reading: Pressure) -> Taken
+    ensures { λ r. ⌜ r ≡ pressureTaken mode lowest highest fixed reading ⌝ }
+{
+    let pressure_off = mode == 0;
+    if pressure_off {
+        return Taken {
+            alarm: false,
+            value: fixed,
+        };
+    }
+    let Pressure::Pascals(p) = reading else {
+        return Taken {
+            alarm: true,
+            value: fixed,
+        };
+    };
+    taken_within(lowest, highest, fixed, p)
+}
+
+// Md.K and K.F stand before the reading.
+pub fn k_taken(mode: u64, fixed: u64, reading: Compressibility) -> Taken
+    ensures { λ r. ⌜ r ≡ kTaken mode fixed reading ⌝ }
+{
+    let k_off = mode == 0;
+    if k_off {
+        return Taken {
+            alarm: false,
+            value: fixed,
+        };
+    }
+    let Compressibility::Computed(k) = reading else {
+        return Taken {
+            alarm: true,
+            value: fixed,
+        };
+    };
+    taken_within(K_LOWEST, K_HIGHEST, fixed, k)
+}
+
+fn measured_taken(
+    lowest: i64,
+    highest: i64,
+    fixed: i64,
+    measured: temperature::Measured,
+) -> TakenTemperature
+    ensures { λ r. ⌜ r ≡ measuredTaken lowest highest fixed measured ⌝ }
+{
+    let temperature::Measured::Hundredths(t) = measured else {
+        return TakenTemperature {
+            alarm: true,
+            value: fixed,
+        };
+    };
+    let low = ground::less(t, lowest);
+    let high = ground::less(highest, t);
+    if ground::either(low, high) {
+        return TakenTemperature {
+            alarm: true,
+            value: fixed,
+        };
+    }
+    TakenTemperature {
+        alarm: false,
+        value: t,
+    }
+}
+
+// Md.T, TMin, TMax, T.F and the three coefficients stand before the reading.
+pub fn temperature_taken(
+    mode: u64,
+    lowest: i64,
+    highest: i64,
+    fixed: i64,
+    c: temperature::Coefficients,
+    reading: RawTemperature,
+) -> TakenTemperature
+    ensures { λ r. ⌜ r ≡ temperatureTaken mode lowest highest fixed c reading ⌝ }
+{
+    let temperature_off = mode == 0;
+    if temperature_off {
+        return TakenTemperature {
+            alarm: false,
+            value: fixed,
+        };
+    }
+    let RawTemperature::Raw(raw) = reading else {
+        return TakenTemperature {
+            alarm: true,
+            value: fixed,
+        };
+    };
+    measured_taken(lowest, highest, fixed, temperature::measure(c, raw))
+}
+
+// 0 where t is no temperature that a setting or T.Mes can be, so that the sum always fits.
+pub fn kelvin(t: i64) -> u64
+    ensures { λ r. ⌜ r ≡ kelvinOf t ⌝ }
+{
+    let cold = ground::less(t, COLDEST);
+    let hot = ground::less(HOTTEST, t);
+    if ground::either(cold, hot) {
+        return 0;
+    }
+    (t + ZERO_CELSIUS) as u64
+}

@@ -1,0 +1,3 @@
+-- What the contracts of the temperature cite.
+pub mod Equation
+pub mod Nearest
