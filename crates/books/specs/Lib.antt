@@ -1,0 +1,2 @@
+-- What the three books hold, and what storing lines in them leaves.
+pub mod Books
