@@ -23,7 +23,7 @@ const LITRES_ROLLOVER: u64 = 1000000000000;
 const BASE_ROLLOVER: u64 = 100000000000000000;
 
 // 10 Hz for 60 s.
-const MOST_PULSES: u64 = 600;
+pub const MOST_PULSES: u64 = 600;
 
 const MOST_CODE: u64 = 4;
 
