@@ -92,7 +92,7 @@ sound-whole s p = rw (sound-core (s .core) (p .core), p .keypad, p .port)
 
 -- ---- a fresh state
 
-no-session : sessionB noSession ≡ true
+pub no-session : sessionB noSession ≡ true
 unfolding sessionB noSession cellsB cellB allBelow
 no-session = refl
 

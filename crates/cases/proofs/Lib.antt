@@ -1,0 +1,3 @@
+-- Every case by hand holds.
+pub mod Table
+pub mod Same

@@ -1,0 +1,2 @@
+-- The cases by hand.
+pub mod Cases

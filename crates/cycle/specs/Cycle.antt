@@ -1,0 +1,174 @@
+-- One measuring cycle, in the paper's order of work. Document 01, "One measuring cycle".
+-- Assumes nothing.
+use Prim.Native.Nat.{ℕ, zero, suc, _+_, _-_, _%_}
+use mathlib.Core.Bool.{Bool, true, false, not, cond, _&&_, _||_}
+use mathlib.Core.List.{List, [], _∷_, _++_, map}
+use lib.ListN.{length, getD}
+use lib.IntN.{ℤ}
+use lib.Ieee.{Float}
+use lib.Dec.{ltb, leb, eqb}
+use Rattle.units.specs.declared.Litres.{Litres}
+use Rattle.units.specs.declared.BaseUnits.{BaseUnits}
+use Rattle.units.specs.declared.Amounts.{Amounts}
+use Rattle.units.specs.declared.Amounts.the-variants.{TooLarge, Counted}
+use Rattle.units.specs.Units.{plusLitres, plusBase, mostPulses, amountsOf}
+use Rattle.settings.specs.declared.Setting.{Setting}
+use Rattle.settings.specs.Settings.{noSetting, wholeOf, naturalOf, coefficientOf}
+use Rattle.calendar.specs.Calendar.{endOfTime, monthOf}
+use Rattle.ring.specs.declared.Ring.{Ring}
+use Rattle.ring.specs.declared.Book.{Book}
+use Rattle.ring.specs.Ring.{archiveLines, logLines, advancedRing, advancedBook}
+use Rattle.temperature.specs.declared.Coefficients.{Coefficients}
+use Rattle.readings.specs.declared.RawTemperature.{RawTemperature}
+use Rattle.readings.specs.declared.Pressure.{Pressure}
+use Rattle.readings.specs.declared.Compressibility.{Compressibility}
+use Rattle.readings.specs.declared.Taken.{Taken}
+use Rattle.readings.specs.declared.TakenTemperature.{TakenTemperature}
+use Rattle.readings.specs.Pressure.{pressureTaken}
+use Rattle.readings.specs.Compressibility.{kTaken}
+use Rattle.readings.specs.Temperature.{temperatureTaken}
+use Rattle.readings.specs.Kelvin.{kelvinOf}
+use Rattle.factor.specs.Factor.{factorTaken}
+use Rattle.books.specs.declared.ArchiveLine.{ArchiveLine}
+use Rattle.books.specs.declared.LogLine.{LogLine}
+use Rattle.state.specs.declared.Counters.{Counters}
+use Rattle.state.specs.declared.Alarms.{Alarms}
+use Rattle.state.specs.declared.Core.{Core}
+use Rattle.state.specs.declared.State.{State}
+use Rattle.state.specs.State.{wholeB}
+use Rattle.state.specs.Card.{firstOf}
+use Rattle.state.specs.declared.Answer.{Answer}
+use Rattle.ring.specs.Store.{written}
+use Rattle.notes.specs.Notes.{keep, logged}
+use Rattle.cycle.specs.declared.Brought.{Brought}
+
+-- The settings by their numbers in the table.
+abbrev pub naturalAt : List Setting → ℕ → ℕ
+naturalAt a number = naturalOf (getD a (number - 1) noSetting .value)
+
+abbrev pub wholeAt : List Setting → ℕ → ℤ
+wholeAt a number = wholeOf (getD a (number - 1) noSetting .value)
+
+abbrev pub coefficientAt : List Setting → ℕ → Float
+coefficientAt a number = coefficientOf (getD a (number - 1) noSetting .value)
+
+-- ---- 1. Months
+
+-- n months from a on
+unfoldable pub monthsFrom : ℕ → ℕ → List ℕ
+monthsFrom a zero = []
+monthsFrom a (suc n) = a ∷ monthsFrom (a + 1) n
+
+-- every month from a up to, but not including, b
+unfoldable pub monthsCrossed : ℕ → ℕ → List ℕ
+monthsCrossed a b = monthsFrom a (b - a)
+
+-- month number and the four counters
+unfoldable pub archiveLine : Counters → ℕ → ArchiveLine
+archiveLine c month = record { month = month; vm = c .vm; vmd = c .vmd; vb = c .vb; vbd = c .vbd }
+
+-- one line for each, oldest first
+unfoldable pub monthLines : Counters → ℕ → ℕ → List ArchiveLine
+monthLines c a b = map (archiveLine c) (monthsCrossed a b)
+
+-- ---- 2. Temperature, 3. Pressure, 4. K: what is taken, and whether it alarms
+
+unfoldable pub coefficientsIn : List Setting → Coefficients
+coefficientsIn a = record { eq1 = coefficientAt a 11; eq2 = coefficientAt a 12; eq3 = coefficientAt a 13 }
+
+unfoldable pub temperatureFor : List Setting → Brought → TakenTemperature
+temperatureFor a r = temperatureTaken (naturalAt a 5) (wholeAt a 9) (wholeAt a 10) (wholeAt a 15) (coefficientsIn a) (r .raw)
+
+unfoldable pub pressureFor : List Setting → Brought → Taken
+pressureFor a r = pressureTaken (naturalAt a 4) (naturalAt a 7) (naturalAt a 8) (naturalAt a 14) (r .pressure)
+
+unfoldable pub kFor : List Setting → Brought → Taken
+kFor a r = kTaken (naturalAt a 6) (naturalAt a 16) (r .k)
+
+-- an alarm is present as this cycle found it
+unfoldable pub alarmsFor : List Setting → Brought → Alarms
+alarmsFor a r = record { p = pressureFor a r .alarm; t = temperatureFor a r .alarm; k = kFor a r .alarm }
+
+-- ---- 5. Factor: p, Tb, pb, T in kelvin, K
+
+unfoldable pub factorFor : List Setting → Brought → ℕ
+factorFor a r = factorTaken (pressureFor a r .value) (naturalAt a 3) (naturalAt a 2) (kelvinOf (temperatureFor a r .value)) (kFor a r .value)
+
+-- ---- 6. Counting
+
+-- n times the pulse value, and that times the factor
+unfoldable pub amountsFor : List Setting → Brought → Amounts
+amountsFor a r = amountsOf (r .n) (naturalAt a 1) (factorFor a r)
+
+unfoldable pub isTooLarge : Amounts → Bool
+isTooLarge TooLarge = true
+isTooLarge (Counted v b) = false
+
+unfoldable pub anyAlarm : Alarms → Bool
+anyAlarm a = a .p || a .t || a .k
+
+-- to the main counters, and the disturbed ones stand still; or, if any alarm is present, the whole of both to the disturbed ones, and the
+-- main counters stand still
+unfoldable pub counted : Counters → Bool → Amounts → Counters
+counted c disturbed TooLarge = c
+counted c false (Counted v b) = record { vm = plusLitres (c .vm) v; vmd = c .vmd; vb = plusBase (c .vb) b; vbd = c .vbd }
+counted c true (Counted v b) = record { vm = c .vm; vmd = plusLitres (c .vmd) v; vb = c .vb; vbd = plusBase (c .vbd) b }
+
+-- ---- 7. Alarms
+
+-- a latch is set when its alarm is present, and stays
+unfoldable pub latchesAfter : Alarms → Alarms → Alarms
+latchesAfter latch found = record { p = found .p || latch .p; t = found .t || latch .t; k = found .k || latch .k }
+
+-- the codes of the alarms that came or went: p, T, K, the "came" lines before the "went" lines
+unfoldable pub changes : Alarms → Alarms → List ℕ
+changes before found =
+    keep (found .p && not (before .p)) 11 ++ keep (found .t && not (before .t)) 12 ++ keep (found .k && not (before .k)) 13
+    ++ keep (before .p && not (found .p)) 21 ++ keep (before .t && not (found .t)) 22 ++ keep (before .k && not (found .k)) 23
+
+-- ---- the whole of it
+
+unfoldable pub cycleRefusal : State → ℕ → ℕ → Brought → ℕ
+cycleRefusal s archiveLength logLength r = firstOf (
+    (1, not (wholeB s && (eqb archiveLength archiveLines && eqb logLength logLines)))
+    ∷ (5, ltb (r .time) (s .core .time))
+    ∷ (6, leb endOfTime (r .time))
+    ∷ (7, ltb mostPulses (r .n))
+    ∷ (14, isTooLarge (amountsFor (s .core .settings) r))
+    ∷ [])
+
+unfoldable pub cycledCore : Core → Brought → Core
+cycledCore c r = record {
+  time = r .time;
+  month = monthOf (r .time);
+  counters = counted (c .counters) (anyAlarm (alarmsFor (c .settings) r)) (amountsFor (c .settings) r);
+  alarms = alarmsFor (c .settings) r;
+  latches = latchesAfter (c .latches) (alarmsFor (c .settings) r);
+  locks = c .locks;
+  settings = c .settings;
+  archive = advancedRing archiveLines (length (monthLines (c .counters) (c .month) (monthOf (r .time)))) (c .archive);
+  log = advancedBook logLines (length (changes (c .alarms) (alarmsFor (c .settings) r))) (c .log);
+  audit = c .audit;
+}
+
+-- a command's answer with the two stores that it is lent
+pub record Outcome : Type 0 where
+  pub answer : Answer
+  pub archive : List ArchiveLine
+  pub log : List LogLine
+
+-- where no refusal applies: the state after it, the archive with a line for every month crossed, and the logbook with the alarms that came
+-- or went, at the cycle's own time
+unfoldable pub cycled : State → Brought → List ArchiveLine → List LogLine → Outcome
+cycled s r archive log = record {
+  answer = record { number = 0; state = record { core = cycledCore (s .core) r; keypad = s .keypad; port = s .port } };
+  archive = written archiveLines (s .core .archive) archive (monthLines (s .core .counters) (s .core .month) (monthOf (r .time)));
+  log = written logLines (s .core .log .ring) log (logged (s .core .log) (r .time) (changes (s .core .alarms) (alarmsFor (s .core .settings) r)));
+}
+
+-- a refusal returns its number, and leaves all as it was
+unfoldable pub cycleOf : State → Brought → List ArchiveLine → List LogLine → Outcome
+cycleOf s r archive log =
+    let number = cycleRefusal s (length archive) (length log) r in
+    cond (eqb number 0) (cycled s r archive log)
+    (record { answer = record { number = number; state = s }; archive = archive; log = log })

@@ -1,0 +1,3 @@
+-- One measuring cycle.
+pub mod Cycle
+pub mod Plan

@@ -1,0 +1,237 @@
+-- Two doors and their sessions. Document 01, "Doors, sessions, locks", and the fault card.
+-- Assumes nothing.
+use Prim.Native.Nat.{ℕ, zero, suc, _+_, _-_}
+use mathlib.Core.Bool.{Bool, true, not, cond, _&&_, _||_}
+use mathlib.Core.List.{List, [], _∷_, _++_}
+use lib.ListN.{length, getD, set, replicate}
+use lib.IntN.{pos}
+use lib.Dec.{ltb, leb, eqb}
+use Rattle.ground.specs.Below.{anyBelow}
+use Rattle.settings.specs.declared.Value.{Value}
+use Rattle.settings.specs.declared.Value.the-variants.{Whole}
+use Rattle.settings.specs.declared.Setting.{Setting}
+use Rattle.settings.specs.Settings.{settingCount, noSetting, fitsB, orderedB, rightB}
+use Rattle.ring.specs.declared.Book.{Book}
+use Rattle.ring.specs.Ring.{auditLines, lineNumber, advancedBook, placeOf}
+use Rattle.books.specs.declared.AuditLine.{AuditLine}
+use Rattle.books.specs.Books.{noAudit}
+use Rattle.state.specs.declared.Locks.{Locks}
+use Rattle.state.specs.declared.Cell.{Cell}
+use Rattle.state.specs.declared.Session.{Session}
+use Rattle.state.specs.declared.Core.{Core}
+use Rattle.state.specs.declared.State.{State}
+use Rattle.state.specs.declared.Answer.{Answer}
+use Rattle.state.specs.State.{blankCell, noSession, wholeB}
+use Rattle.state.specs.Card.{firstOf}
+use Rattle.ring.specs.Store.{written}
+use Rattle.notes.specs.Notes.{keep}
+use Rattle.asked.specs.Asked.{answered, slotOf, lineRefusal}
+use Rattle.doors.specs.declared.ReadAnswer.{ReadAnswer}
+use Rattle.doors.specs.declared.AuditAnswer.{AuditAnswer}
+
+-- ---- the doors: 1 the keypad, 2 the optical port
+
+abbrev pub noDoor : ℕ → Bool
+noDoor door = ltb door 1 || ltb 2 door
+
+abbrev pub noSuchSetting : ℕ → Bool
+noSuchSetting setting = ltb setting 1 || ltb settingCount setting
+
+unfoldable pub sessionAt : State → ℕ → Session
+sessionAt s door = cond (eqb door 1) (s .keypad) (s .port)
+
+unfoldable pub otherAt : State → ℕ → Session
+otherAt s door = cond (eqb door 1) (s .port) (s .keypad)
+
+-- the state with these sessions at the door and at the other door
+unfoldable pub placed : Core → ℕ → Session → Session → State
+placed c door mine theirs = record { core = c; keypad = cond (eqb door 1) mine theirs; port = cond (eqb door 1) theirs mine }
+
+unfoldable pub withSession : State → ℕ → Session → State
+withSession s door x = placed (s .core) door x (otherAt s door)
+
+-- setting number `setting` of a session
+unfoldable pub cellAt : Session → ℕ → Cell
+cellAt x setting = getD (x .cells) (setting - 1) blankCell
+
+unfoldable pub withCell : Session → ℕ → Cell → Session
+withCell x setting c = record { live = x .live; cells = set (x .cells) (setting - 1) c }
+
+-- ---- begin, abandon
+
+-- a session as it begins: nothing staged, nothing read
+unfoldable pub begun : Session
+begun = record { live = true; cells = replicate settingCount blankCell }
+
+unfoldable pub beginRefusal : State → ℕ → ℕ
+beginRefusal s door = firstOf ((1, not (wholeB s)) ∷ (3, noDoor door) ∷ (2, sessionAt s door .live) ∷ [])
+
+unfoldable pub beginOf : State → ℕ → Answer
+beginOf s door = answered (beginRefusal s door) s (withSession s door begun)
+
+unfoldable pub abandonRefusal : State → ℕ → ℕ
+abandonRefusal s door = firstOf ((1, not (wholeB s)) ∷ (3, noDoor door) ∷ (4, not (sessionAt s door .live)) ∷ [])
+
+unfoldable pub abandonOf : State → ℕ → Answer
+abandonOf s door = answered (abandonRefusal s door) s (withSession s door noSession)
+
+-- ---- read
+
+unfoldable pub readRefusal : State → ℕ → ℕ → ℕ
+readRefusal s door setting = firstOf ((1, not (wholeB s)) ∷ (3, noDoor door || noSuchSetting setting) ∷ (4, not (sessionAt s door .live)) ∷ [])
+
+-- the session's own staged value if it has one, else the value in force
+unfoldable pub valueRead : State → ℕ → ℕ → Value
+valueRead s door setting =
+    cond (cellAt (sessionAt s door) setting .staged) (cellAt (sessionAt s door) setting .value)
+    (getD (s .core .settings) (setting - 1) noSetting .value)
+
+-- either way the setting then counts as read by this session
+unfoldable pub markedRead : Cell → Cell
+markedRead c = record { staged = c .staged; value = c .value; read = true; overtaken = c .overtaken }
+
+unfoldable pub readAfter : State → ℕ → ℕ → State
+readAfter s door setting =
+    withSession s door (withCell (sessionAt s door) setting (markedRead (cellAt (sessionAt s door) setting)))
+
+unfoldable pub readOf : State → ℕ → ℕ → ReadAnswer
+readOf s door setting =
+    let number = readRefusal s door setting in
+    record {
+      number = number;
+      value = cond (eqb number 0) (valueRead s door setting) (Whole (pos 0));
+      state = cond (eqb number 0) (readAfter s door setting) s;
+    }
+
+-- ---- write
+
+unfoldable pub writeRefusal : State → ℕ → ℕ → Value → ℕ
+writeRefusal s door setting v = firstOf (
+    (1, not (wholeB s))
+    ∷ (3, noDoor door || noSuchSetting setting)
+    ∷ (4, not (sessionAt s door .live))
+    ∷ (9, not (fitsB (setting - 1) v))
+    ∷ [])
+
+-- a second write of the same setting replaces the first; what was read stays read
+unfoldable pub stagedCell : Cell → Value → Cell
+stagedCell c v = record { staged = true; value = v; read = c .read; overtaken = c .overtaken }
+
+unfoldable pub writeAfter : State → ℕ → ℕ → Value → State
+writeAfter s door setting v =
+    withSession s door (withCell (sessionAt s door) setting (stagedCell (cellAt (sessionAt s door) setting) v))
+
+unfoldable pub writeOf : State → ℕ → ℕ → Value → Answer
+writeOf s door setting v = answered (writeRefusal s door setting v) s (writeAfter s door setting v)
+
+-- ---- commit
+
+-- a lock is missing for a staged setting
+unfoldable pub missingAt : Locks → List Cell → ℕ → Bool
+missingAt l cells k = getD cells k blankCell .staged && not (rightB k (l .cal) (l .sup) (l .cust))
+
+unfoldable pub lockMissing : Locks → List Cell → Bool
+lockMissing l cells = anyBelow (missingAt l cells) settingCount
+
+-- a setting counted as read was put in force through the other door after that
+unfoldable pub overtakenAt : List Cell → ℕ → Bool
+overtakenAt cells k = getD cells k blankCell .overtaken
+
+unfoldable pub staleB : List Cell → Bool
+staleB cells = anyBelow (overtakenAt cells) settingCount
+
+-- the settings as they would stand after the commit: a staged one at the value staged, any other as it is in force
+unfoldable pub standsAt : Setting → Cell → Setting
+standsAt x c = cond (c .staged) (record { value = c .value }) x
+
+unfoldable pub asStand : List Setting → List Cell → List Setting
+asStand [] cells = []
+asStand (x ∷ a) [] = x ∷ a
+asStand (x ∷ a) (c ∷ cells) = standsAt x c ∷ asStand a cells
+
+unfoldable pub commitRefusal : State → ℕ → ℕ → ℕ
+commitRefusal s door auditLength = firstOf (
+    (1, not (wholeB s && eqb auditLength auditLines))
+    ∷ (3, noDoor door)
+    ∷ (4, not (sessionAt s door .live))
+    ∷ (10, lockMissing (s .core .locks) (sessionAt s door .cells))
+    ∷ (11, staleB (sessionAt s door .cells))
+    ∷ (12, not (orderedB (asStand (s .core .settings) (sessionAt s door .cells))))
+    ∷ [])
+
+-- the n-th line of a commit, counted from 0, of the setting at place k
+unfoldable pub lineFor : Book → ℕ → ℕ → ℕ → ℕ → Value → Value → AuditLine
+lineFor b n time door k old new = record { number = lineNumber b n; time = time; door = door; setting = k + 1; old = old; new = new }
+
+-- One audit line for each staged setting among the first n, in order of setting number, also where old and new are equal.
+unfoldable pub auditOf : Book → ℕ → ℕ → List Setting → List Cell → ℕ → List AuditLine
+auditOf b time door a cells zero = []
+auditOf b time door a cells (suc k) =
+    auditOf b time door a cells k
+    ++ keep (getD cells k blankCell .staged)
+    (lineFor b (length (auditOf b time door a cells k)) time door k (getD a k noSetting .value) (getD cells k blankCell .value))
+
+-- the lines of a commit at a door; the time is that of the last accepted cycle
+unfoldable pub commitLines : State → ℕ → List AuditLine
+commitLines s door = auditOf (s .core .audit) (s .core .time) door (s .core .settings) (sessionAt s door .cells) settingCount
+
+-- the other door's session is marked where it had read a setting that is now put in force
+unfoldable pub markedBy : Cell → Cell → Cell
+markedBy c d = record { staged = d .staged; value = d .value; read = d .read; overtaken = d .overtaken || (d .read && c .staged) }
+
+unfoldable pub overtakenBy : List Cell → List Cell → List Cell
+overtakenBy [] theirs = theirs
+overtakenBy (c ∷ mine) [] = []
+overtakenBy (c ∷ mine) (d ∷ theirs) = markedBy c d ∷ overtakenBy mine theirs
+
+unfoldable pub overtakenSession : Session → Session → Session
+overtakenSession mine theirs = record { live = theirs .live; cells = overtakenBy (mine .cells) (theirs .cells) }
+
+unfoldable pub committedCore : Core → List Cell → ℕ → Core
+committedCore c cells lines = record {
+  time = c .time;
+  month = c .month;
+  counters = c .counters;
+  alarms = c .alarms;
+  latches = c .latches;
+  locks = c .locks;
+  settings = asStand (c .settings) cells;
+  archive = c .archive;
+  log = c .log;
+  audit = advancedBook auditLines lines (c .audit);
+}
+
+-- all staged values in force together, the other door marked, and the session ended
+unfoldable pub committed : State → ℕ → State
+committed s door =
+    placed (committedCore (s .core) (sessionAt s door .cells) (length (commitLines s door))) door noSession
+    (overtakenSession (sessionAt s door) (otherAt s door))
+
+-- an answer with the audit trail
+pub record Audited : Type 0 where
+  pub answer : Answer
+  pub audit : List AuditLine
+
+-- refused by 10, 11 or 12 it ends the session and changes nothing else; any other refusal changes nothing at all
+unfoldable pub refusedCommit : State → ℕ → ℕ → State
+refusedCommit s door number = cond (leb 10 number) (withSession s door noSession) s
+
+unfoldable pub commitOf : State → ℕ → List AuditLine → Audited
+commitOf s door audit =
+    let number = commitRefusal s door (length audit) in
+    cond (eqb number 0)
+    (record {
+      answer = record { number = 0; state = committed s door };
+      audit = written auditLines (s .core .audit .ring) audit (commitLines s door);
+    })
+    (record { answer = record { number = number; state = refusedCommit s door number }; audit = audit })
+
+-- ---- a line of the audit trail
+
+unfoldable pub auditAnswered : ℕ → AuditLine → AuditAnswer
+auditAnswered number line = record { number = number; line = cond (eqb number 0) line noAudit }
+
+unfoldable pub auditLineOf : State → ℕ → List AuditLine → AuditAnswer
+auditLineOf s i audit =
+    auditAnswered (lineRefusal s auditLines (length audit) (s .core .audit .ring) i)
+    (getD audit (slotOf (placeOf auditLines (s .core .audit .ring) i)) noAudit)

@@ -1,0 +1,257 @@
+-- Laws of the panel's commands, over the definitions: a whole state stays whole, a refusal changes nothing, Clear drops exactly the latches
+-- of alarms not present, totals count under the rollover, and a lock turned to where it stands leaves everything as it was.
+-- Assumes nothing.
+use mathlib.Core.Path.{_≡_, refl, sym, ap, _∙_}
+use mathlib.Core.Bool.{Bool, true, false, not, cond, _&&_, _||_, true≢false, and-true, and-false}
+use mathlib.Core.List.{List, []}
+use Prim.Native.Nat.{ℕ, zero, suc, _+_, _≤_, _<_}
+use native.Mathlib.Nat.{add-zero}
+use native.Mathlib.Omega.{arith}
+use lib.Dec.{ltb, leb, eqb}
+use lib.ListN.{length, getD}
+use borrow.Author.Tests.{ltb-false, lt-leb, le-leb, leb-false}
+use Rattle.ground.proofs.Flags.{or-false-right, Either, is-true, is-false, either-of}
+use Rattle.units.specs.Units.{litresRollover, baseRollover, litresShown, baseShown}
+use Rattle.units.proofs.Sums.{litres-together, litres-in-range, base-together, base-in-range}
+use Rattle.calendar.specs.Calendar.{endOfTime}
+use Rattle.ring.specs.declared.Book.{Book}
+use Rattle.ring.specs.Ring.{archiveLines, logLines, logStep, bookAfter, FromFresh, advancedBook, bookB}
+use Rattle.ring.specs.Store.{written, heldLines}
+use Rattle.ring.proofs.Fresh.{book-advances}
+use Rattle.ring.proofs.Whole.{book-from, book-stays, log-common}
+use Rattle.books.specs.declared.ArchiveLine.{ArchiveLine}
+use Rattle.books.specs.declared.LogLine.{LogLine}
+use Rattle.books.specs.Books.{noArchive, noLog}
+use Rattle.notes.specs.Notes.{numbered, logged}
+use Rattle.state.specs.declared.Alarms.{Alarms}
+use Rattle.state.specs.declared.Locks.{Locks}
+use Rattle.state.specs.declared.Core.{Core}
+use Rattle.state.specs.declared.State.{State}
+use Rattle.state.specs.State.{fresh, latchedB, wholeB}
+use Rattle.state.proofs.Sound.{Sound, SoundCore, whole-sound, sound-whole, fresh-whole}
+use Rattle.asked.proofs.Laws.{line-read}
+use Rattle.panel.specs.Panel.{Logged, startRefusal, startOf, noLock, lockIn, withLock, turnCodes, turnedCore, turned, refusedTurn, openRefusal, openOf, shutRefusal, shutOf, clearedLatches, cleared, clearRefusal, clearOf, reported, logLineOf, archiveLineOf}
+
+-- ---- start
+
+start-by : (time supcode custcode : ℕ) → Either (leb endOfTime time) → wholeB (startOf time supcode custcode .state) ≡ true
+unfolding startOf startRefusal
+start-by time supcode custcode (is-true t) = rw t (fresh-whole 0 0 0 (omega arith))
+start-by time supcode custcode (is-false f) = rw f (fresh-whole time supcode custcode (leb-false endOfTime time f))
+
+pub start-whole : (time supcode custcode : ℕ) → wholeB (startOf time supcode custcode .state) ≡ true
+start-whole time supcode custcode = start-by time supcode custcode (either-of (leb endOfTime time))
+
+pub start-refused : (time supcode custcode : ℕ) → endOfTime ≤ time → startOf time supcode custcode ≡ record { number = 6; state = fresh 0 0 0 }
+unfolding startOf startRefusal
+start-refused time supcode custcode h = rw (le-leb endOfTime time h)
+
+pub start-done : (time supcode custcode : ℕ) → time < endOfTime → startOf time supcode custcode ≡ record { number = 0; state = fresh time supcode custcode }
+unfolding startOf startRefusal
+start-done time supcode custcode h = rw (lt-leb endOfTime time h)
+
+-- ---- lock turns
+
+pub turned-whole : (s : State) (lock : ℕ) (to : Bool) (log : List LogLine) → wholeB s ≡ true → wholeB (turned s lock to log .answer .state) ≡ true
+unfolding turned turnedCore
+turned-whole s lock to log e =
+    let p : Sound s = whole-sound s e in
+    let c : SoundCore (s .core) = p .core in
+    sound-whole (turned s lock to log .answer .state) (record {
+      core = record {
+        in-time = c .in-time;
+        fit = c .fit;
+        ordered = c .ordered;
+        counted = c .counted;
+        latched = c .latched;
+        in-month = c .in-month;
+        archive-held = c .archive-held;
+        log-held = book-stays log-common (length (turnCodes (s .core .locks) lock to)) (s .core .log) (c .log-held);
+        audit-held = c .audit-held;
+      };
+      keypad = p .keypad;
+      port = p .port;
+    })
+
+-- a turn by its refusal
+turn-whole : (number : ℕ) (s : State) (lock : ℕ) (to : Bool) (log : List LogLine) (done : Bool) → wholeB s ≡ true
+    → wholeB (cond {A = Logged} done (turned s lock to log) (refusedTurn number s log) .answer .state) ≡ true
+turn-whole number s lock to log true e = turned-whole s lock to log e
+turn-whole number s lock to log false e = e
+
+pub open-whole : (s : State) (lock code : ℕ) (log : List LogLine) → wholeB s ≡ true → wholeB (openOf s lock code log .answer .state) ≡ true
+unfolding openOf
+open-whole s lock code log =
+    turn-whole (openRefusal s (length log) lock code) s lock true log (eqb (openRefusal s (length log) lock code) 0)
+
+pub shut-whole : (s : State) (lock : ℕ) (log : List LogLine) → wholeB s ≡ true → wholeB (shutOf s lock log .answer .state) ≡ true
+unfolding shutOf
+shut-whole s lock log = turn-whole (shutRefusal s (length log) lock) s lock false log (eqb (shutRefusal s (length log) lock) 0)
+
+-- a refusal gives its number and changes nothing
+pub open-refused : (s : State) (lock code : ℕ) (log : List LogLine) → eqb (openRefusal s (length log) lock code) 0 ≡ false
+    → openOf s lock code log ≡ refusedTurn (openRefusal s (length log) lock code) s log
+unfolding openOf
+open-refused s lock code log h = rw h
+
+pub shut-refused : (s : State) (lock : ℕ) (log : List LogLine) → eqb (shutRefusal s (length log) lock) 0 ≡ false
+    → shutOf s lock log ≡ refusedTurn (shutRefusal s (length log) lock) s log
+unfolding shutOf
+shut-refused s lock log h = rw h
+
+-- ---- clear
+
+clear-flag : (present latch : Bool) → (not present || latch && present) ≡ (not present || latch)
+clear-flag true latch = and-true latch
+clear-flag false latch = refl
+
+cleared-latched : (present latch : Alarms) → latchedB present (clearedLatches latch present) ≡ latchedB present latch
+unfolding latchedB clearedLatches
+cleared-latched present latch =
+    rw (clear-flag (present .p) (latch .p), clear-flag (present .t) (latch .t), clear-flag (present .k) (latch .k))
+
+pub cleared-whole : (s : State) → wholeB s ≡ true → wholeB (cleared s) ≡ true
+unfolding cleared
+cleared-whole s e =
+    let p : Sound s = whole-sound s e in
+    let c : SoundCore (s .core) = p .core in
+    sound-whole (cleared s) (record {
+      core = record {
+        in-time = c .in-time;
+        fit = c .fit;
+        ordered = c .ordered;
+        counted = c .counted;
+        latched = cleared-latched (s .core .alarms) (s .core .latches) ∙ c .latched;
+        in-month = c .in-month;
+        archive-held = c .archive-held;
+        log-held = c .log-held;
+        audit-held = c .audit-held;
+      };
+      keypad = p .keypad;
+      port = p .port;
+    })
+
+clear-by : (number : ℕ) (s : State) (done : Bool) → wholeB s ≡ true → wholeB (cond {A = State} done (cleared s) s) ≡ true
+clear-by number s true e = cleared-whole s e
+clear-by number s false e = e
+
+pub clear-whole : (s : State) → wholeB s ≡ true → wholeB (clearOf s .state) ≡ true
+unfolding clearOf
+clear-whole s = clear-by (clearRefusal s) s (eqb (clearRefusal s) 0)
+
+pub clear-refused : (s : State) → eqb (clearRefusal s) 0 ≡ false → clearOf s ≡ record { number = clearRefusal s; state = s }
+unfolding clearOf
+clear-refused s h = rw h
+
+-- of each alarm: a latch drops where the alarm is not present, and stays as it was where it is
+pub record Dropped (present latch after : Bool) : Type 0 where
+  pub gone : present ≡ false → after ≡ false
+  pub stays : present ≡ true → after ≡ latch
+
+drop-of : (present latch : Bool) → Dropped present latch (latch && present)
+drop-of present latch = record {
+  gone = λ (e : present ≡ false). rw e (and-false latch);
+  stays = λ (e : present ≡ true). rw e (and-true latch);
+}
+
+pub record DroppedAll (present latch after : Alarms) : Type 0 where
+  pub p : Dropped (present .p) (latch .p) (after .p)
+  pub t : Dropped (present .t) (latch .t) (after .t)
+  pub k : Dropped (present .k) (latch .k) (after .k)
+
+pub clear-drops : (present latch : Alarms) → DroppedAll present latch (clearedLatches latch present)
+unfolding clearedLatches
+clear-drops present latch = record {
+  p = drop-of (present .p) (latch .p);
+  t = drop-of (present .t) (latch .t);
+  k = drop-of (present .k) (latch .k);
+}
+
+-- ---- totals
+
+-- main and disturbed that have counted a and b in all show the total a + b under the rollover
+pub total-litres : (c : Core) (a b : ℕ) → c .counters .vm ≡ litresShown a → c .counters .vmd ≡ litresShown b → reported c .vmt ≡ litresShown (a + b)
+unfolding reported
+total-litres c a b p q = rw (p, q) (litres-together a b)
+
+pub total-base : (c : Core) (a b : ℕ) → c .counters .vb ≡ baseShown a → c .counters .vbd ≡ baseShown b → reported c .vbt ≡ baseShown (a + b)
+unfolding reported
+total-base c a b p q = rw (p, q) (base-together a b)
+
+pub total-litres-in-range : (c : Core) → ltb (reported c .vmt .0) litresRollover ≡ true
+unfolding reported
+total-litres-in-range c = litres-in-range (c .counters .vm) (c .counters .vmd)
+
+pub total-base-in-range : (c : Core) → ltb (reported c .vbt .0) baseRollover ≡ true
+unfolding reported
+total-base-in-range c = base-in-range (c .counters .vb) (c .counters .vbd)
+
+-- ---- a lock's place
+
+-- the three locks
+data Which (lock : ℕ) : Type 0 where
+  one : lock ≡ 1 → Which lock
+  two : lock ≡ 2 → Which lock
+  three : lock ≡ 3 → Which lock
+
+which : (lock : ℕ) → noLock lock ≡ false → Which lock
+which zero h = absurd (true≢false h)
+which (suc zero) h = one refl
+which (suc (suc zero)) h = two refl
+which (suc (suc (suc zero))) h = three refl
+which (suc (suc (suc (suc n)))) h = absurd (omega (arith, ltb-false 3 (suc (suc (suc (suc n)))) (or-false-right (ltb (suc (suc (suc (suc n)))) 1) (ltb 3 (suc (suc (suc (suc n))))) h)))
+
+stands-by : (l : Locks) (lock : ℕ) (to : Bool) → Which lock → lockIn (withLock l lock to) lock ≡ to
+unfolding lockIn withLock
+stands-by l lock to (one e) = rw e
+stands-by l lock to (two e) = rw e
+stands-by l lock to (three e) = rw e
+
+-- a lock stands where it was turned to, and the others where they stood
+pub lock-turned : (l : Locks) (lock : ℕ) (to : Bool) → noLock lock ≡ false → lockIn (withLock l lock to) lock ≡ to
+lock-turned l lock to h = stands-by l lock to (which lock h)
+
+other-by : (l : Locks) (lock other : ℕ) (to : Bool) → Which other → eqb lock other ≡ false → lockIn (withLock l lock to) other ≡ lockIn l other
+unfolding lockIn withLock
+other-by l lock other to (one e) h = rw e (rw (rw e at h))
+other-by l lock other to (two e) h = rw e (rw (rw e at h))
+other-by l lock other to (three e) h = rw e (rw (rw e at h))
+
+pub others-stand : (l : Locks) (lock other : ℕ) (to : Bool) → noLock other ≡ false → eqb lock other ≡ false → lockIn (withLock l lock to) other ≡ lockIn l other
+others-stand l lock other to h = other-by l lock other to (which other h)
+
+still-by : (l : Locks) (lock : ℕ) (to : Bool) → Which lock → lockIn l lock ≡ to → withLock l lock to ≡ l
+unfolding lockIn withLock
+still-by l lock to (one e) h = rw (e, sym (rw e at h))
+still-by l lock to (two e) h = rw (e, sym (rw e at h))
+still-by l lock to (three e) h = rw (e, sym (rw e at h))
+
+still-codes : (l : Locks) (lock : ℕ) (to : Bool) → lockIn l lock ≡ to → turnCodes l lock to ≡ []
+unfolding turnCodes
+still-codes l lock true h = rw h
+still-codes l lock false h = rw h
+
+no-line : (b : Book) → bookB logLines logStep b ≡ true → advancedBook logLines 0 b ≡ b
+no-line b e =
+    let f : FromFresh (bookAfter logLines) b = book-from log-common b e in
+    ap (advancedBook logLines 0) (f .gives) ∙ book-advances logLines (f .lines) 0 (omega arith) ∙ ap (bookAfter logLines) (add-zero (f .lines)) ∙ sym (f .gives)
+
+-- turned to where it already stands: accepted, not logged, and nothing changes
+pub turned-still : (s : State) (lock : ℕ) (to : Bool) (log : List LogLine) → wholeB s ≡ true → noLock lock ≡ false → lockIn (s .core .locks) lock ≡ to
+    → turned s lock to log ≡ record { answer = record { number = 0; state = s }; log = log }
+unfolding turned turnedCore logged numbered written
+turned-still s lock to log e h at =
+    rw (still-codes (s .core .locks) lock to at, still-by (s .core .locks) lock to (which lock h) at, no-line (s .core .log) (whole-sound s e .core .log-held))
+
+-- ---- lines
+
+-- a line that is given is line i of those held, newest first
+pub log-line-held : (s : State) (i : ℕ) (log : List LogLine) → logLineOf s i log .number ≡ 0
+    → logLineOf s i log .line ≡ getD (heldLines logLines noLog (s .core .log .ring) log) i noLog
+unfolding logLineOf
+log-line-held s i log e = rw e (line-read noLog s logLines (length log) (s .core .log .ring) i log e)
+
+pub archive-line-held : (s : State) (i : ℕ) (archive : List ArchiveLine) → archiveLineOf s i archive .number ≡ 0
+    → archiveLineOf s i archive .line ≡ getD (heldLines archiveLines noArchive (s .core .archive) archive) i noArchive
+unfolding archiveLineOf
+archive-line-held s i archive e = rw e (line-read noArchive s archiveLines (length archive) (s .core .archive) i archive e)

@@ -1,0 +1,3 @@
+-- Start, locks, clear, reports, lines of the archive and the logbook.
+pub mod Panel
+pub mod Plan

@@ -1,0 +1,20 @@
+// Asks the rules of one measuring cycle a few hundred questions and prints each with its answer. The file stdout beside it is what
+// tools/vectors.py works out by other means.
+mod amounts;
+mod factors;
+mod measures;
+mod months;
+mod print;
+mod stores;
+mod table;
+mod taken;
+
+fn main() {
+    months::run();
+    factors::run();
+    amounts::run();
+    measures::run();
+    taken::run();
+    table::run();
+    stores::run();
+}

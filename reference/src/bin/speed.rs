@@ -1,0 +1,369 @@
+//! Prints one table of speed: accepted cycles a second and mixed commands a
+//! second of each side, without the cost of text, and whole programs in lines
+//! a second.
+
+use std::hint::black_box;
+use std::io::{self, Read, Write};
+use std::path::{Path, PathBuf};
+use std::process::{Command as Process, ExitCode, Stdio};
+use std::thread;
+use std::time::{Duration, Instant};
+
+use corrector_reference::command::{obey, Command};
+use corrector_reference::device::Device;
+use corrector_reference::generate::{accepted_cycles, mixed_commands};
+use corrector_reference::lines::write_command;
+
+const USAGE: &str = "\
+usage: speed [--device PROGRAM] [--bench PROGRAM] [options]
+
+  --device PROGRAM  a timing program for the Rattle device, see the README
+  --bench PROGRAM   the bench, measured as a whole in lines a second
+  --rounds N        how often each figure is taken; the best counts (25)
+  --seconds S       about how long each of them takes (0.1)
+  --save FOLDER     writes the two workloads there as lines, and ends
+
+Without --device and --bench the table has the reference's figures alone.";
+
+/// The same commands for every side and every run.
+const SEED: u64 = 2_000;
+const COMMANDS: usize = 100_000;
+
+struct Workload {
+    name: &'static str,
+    /// The first is a start, so that the workload can be put to a device any
+    /// number of times.
+    commands: Vec<Command>,
+    /// Every command is accepted.
+    all_accepted: bool,
+}
+
+impl Workload {
+    fn all() -> [Workload; 2] {
+        [
+            Workload {
+                name: "cycles",
+                commands: accepted_cycles(SEED, COMMANDS),
+                all_accepted: true,
+            },
+            Workload {
+                name: "mixed",
+                commands: mixed_commands(SEED, COMMANDS),
+                all_accepted: false,
+            },
+        ]
+    }
+
+    fn lines(&self) -> Vec<u8> {
+        let mut lines = Vec::new();
+        for command in &self.commands {
+            write_command(command, &mut lines);
+            lines.push(b'\n');
+        }
+        lines
+    }
+}
+
+/// What took how long.
+struct Timing {
+    commands: u64,
+    elapsed: Duration,
+}
+
+impl Timing {
+    fn a_second(&self) -> f64 {
+        self.commands as f64 / self.elapsed.as_secs_f64()
+    }
+}
+
+/// One side of the table: a device that is given commands as plain values.
+///
+/// The Rattle device joins here. Today that is the timing program below; a
+/// static library of `extern "C"` functions would be a third kind of side,
+/// whose `time` turns each command into one call, as the bench does after it
+/// has read the text.
+trait Side {
+    fn name(&self) -> &str;
+
+    /// Puts the workload to the device so many times.
+    fn time(&mut self, workload: &Workload, passes: u64) -> Result<Timing, String>;
+}
+
+struct Reference {
+    device: Device,
+}
+
+impl Side for Reference {
+    fn name(&self) -> &str {
+        "Rust reference"
+    }
+
+    fn time(&mut self, workload: &Workload, passes: u64) -> Result<Timing, String> {
+        let mut accepted = 0;
+        let begun = Instant::now();
+        for _ in 0..passes {
+            for command in &workload.commands {
+                // The compiler must not learn what is in the commands, nor
+                // that nobody looks at most answers.
+                let answer = black_box(obey(&mut self.device, black_box(command)));
+                accepted += u64::from(answer.is_ok());
+            }
+        }
+        let elapsed = begun.elapsed();
+        let commands = passes * workload.commands.len() as u64;
+        if workload.all_accepted && accepted != commands {
+            return Err(format!("{}: a command was refused", workload.name));
+        }
+        Ok(Timing { commands, elapsed })
+    }
+}
+
+/// A program that times another device. It is started with the number of
+/// passes as its only argument and the workload's lines on its standard
+/// input. It reads them all into plain values, puts them to its device so
+/// many times, and prints how many commands that were and how many
+/// nanoseconds they took, text set apart.
+struct TimingProgram {
+    program: PathBuf,
+}
+
+impl Side for TimingProgram {
+    fn name(&self) -> &str {
+        "Rattle device"
+    }
+
+    fn time(&mut self, workload: &Workload, passes: u64) -> Result<Timing, String> {
+        let (output, _) = run(&self.program, Some(passes), workload.lines())
+            .map_err(|error| format!("{}: {error}", self.program.display()))?;
+        let text = String::from_utf8_lossy(&output);
+        let numbers: Vec<u64> =
+            text.split_whitespace().filter_map(|word| word.parse().ok()).collect();
+        match numbers[..] {
+            [commands, nanoseconds] if commands > 0 && nanoseconds > 0 => {
+                Ok(Timing { commands, elapsed: Duration::from_nanos(nanoseconds) })
+            }
+            _ => Err(format!("{}: not a timing: {}", self.program.display(), text.trim())),
+        }
+    }
+}
+
+/// Runs a program on an input that is written by a thread of its own, so that
+/// full pipes hold nobody up. Gives its output and the time it took.
+fn run(program: &Path, passes: Option<u64>, input: Vec<u8>) -> io::Result<(Vec<u8>, Duration)> {
+    let mut process = Process::new(program);
+    if let Some(passes) = passes {
+        process.arg(passes.to_string());
+    }
+    let begun = Instant::now();
+    let mut child = process.stdin(Stdio::piped()).stdout(Stdio::piped()).spawn()?;
+    let mut stdin = child.stdin.take().expect("a piped standard input");
+    let mut stdout = child.stdout.take().expect("a piped standard output");
+    let writer = thread::spawn(move || {
+        let _ = stdin.write_all(&input);
+    });
+    let mut output = Vec::new();
+    stdout.read_to_end(&mut output)?;
+    let status = child.wait()?;
+    let elapsed = begun.elapsed();
+    let _ = writer.join();
+    if status.success() {
+        Ok((output, elapsed))
+    } else {
+        Err(io::Error::other(format!("ended with {status}")))
+    }
+}
+
+struct Options {
+    device: Option<PathBuf>,
+    bench: Option<PathBuf>,
+    rounds: usize,
+    seconds: f64,
+    save: Option<PathBuf>,
+}
+
+fn read_options() -> Result<Option<Options>, String> {
+    let mut options = Options { device: None, bench: None, rounds: 25, seconds: 0.1, save: None };
+    let mut words = std::env::args().skip(1);
+    while let Some(word) = words.next() {
+        let mut next = || words.next().ok_or(format!("{word} needs a value"));
+        let not_a_number = || format!("{word} needs a number");
+        // A bare name would be looked for among the installed programs.
+        let path = |name: String| PathBuf::from(&name).canonicalize().unwrap_or(name.into());
+        match word.as_str() {
+            "--device" => options.device = Some(path(next()?)),
+            "--bench" => options.bench = Some(path(next()?)),
+            "--rounds" => options.rounds = next()?.parse().map_err(|_| not_a_number())?,
+            "--seconds" => options.seconds = next()?.parse().map_err(|_| not_a_number())?,
+            "--save" => options.save = Some(next()?.into()),
+            "--help" => return Ok(None),
+            _ => return Err(format!("unknown option {word}")),
+        }
+    }
+    if options.rounds == 0 || options.seconds.is_nan() || options.seconds <= 0.0 {
+        return Err("rounds and seconds must be above 0".to_string());
+    }
+    Ok(Some(options))
+}
+
+fn main() -> ExitCode {
+    let options = match read_options() {
+        Ok(Some(options)) => options,
+        Ok(None) => {
+            println!("{USAGE}");
+            return ExitCode::SUCCESS;
+        }
+        Err(message) => {
+            eprintln!("speed: {message}\n\n{USAGE}");
+            return ExitCode::from(2);
+        }
+    };
+    match measure(&options) {
+        Ok(()) => ExitCode::SUCCESS,
+        Err(message) => {
+            eprintln!("speed: {message}");
+            ExitCode::FAILURE
+        }
+    }
+}
+
+fn measure(options: &Options) -> Result<(), String> {
+    let workloads = Workload::all();
+    if let Some(folder) = &options.save {
+        return save(&workloads, folder).map_err(|error| format!("{}: {error}", folder.display()));
+    }
+    if cfg!(debug_assertions) {
+        println!("NOT built for release: these figures mean nothing");
+    }
+
+    let mut sides: Vec<Box<dyn Side>> = vec![Box::new(Reference { device: Device::new() })];
+    if let Some(program) = &options.device {
+        sides.push(Box::new(TimingProgram { program: program.clone() }));
+    }
+    // One row of figures for each side, one column for each workload.
+    let mut figures = vec![Vec::new(); sides.len()];
+    for workload in &workloads {
+        for (row, figure) in device_figures(&mut sides, workload, options)?.into_iter().enumerate()
+        {
+            figures[row].push(figure);
+        }
+    }
+
+    println!("{:<34}{:>16}{:>16}", "a second", "cycles", "mixed commands");
+    for (side, row) in sides.iter().zip(&figures) {
+        print_row(side.name(), row.iter().map(|figure| grouped(*figure)));
+    }
+    match figures.get(1) {
+        Some(row) => {
+            let ratios =
+                row.iter().zip(&figures[0]).map(|(other, own)| format!("{:.2}", other / own));
+            print_row("ratio, Rattle to Rust", ratios);
+        }
+        None => print_row("Rattle device", ["not measured"; 2].map(String::from).into_iter()),
+    }
+
+    println!();
+    println!("{:<34}{:>16}{:>16}", "lines a second, text and all", "cycles", "mixed commands");
+    let mut programs = Vec::new();
+    let answer = std::env::current_exe().ok().and_then(|path| {
+        let path = path.with_file_name("answer");
+        path.exists().then_some(path)
+    });
+    if let Some(program) = answer {
+        programs.push(("Rust reference (answer)", program));
+    }
+    if let Some(program) = &options.bench {
+        programs.push(("bench", program.clone()));
+    }
+    for (name, program) in &programs {
+        let mut row = Vec::new();
+        for workload in &workloads {
+            row.push(grouped(program_figure(program, workload, options)?));
+        }
+        print_row(name, row.into_iter());
+    }
+    if options.bench.is_none() {
+        print_row("bench", ["not measured"; 2].map(String::from).into_iter());
+    }
+    Ok(())
+}
+
+fn print_row(name: &str, figures: impl Iterator<Item = String>) {
+    print!("{name:<34}");
+    for figure in figures {
+        print!("{figure:>16}");
+    }
+    println!();
+}
+
+/// The best of the rounds for each side: whatever else the machine does only
+/// slows them down. The sides take turns, so that a slow while meets them all.
+fn device_figures(
+    sides: &mut [Box<dyn Side>],
+    workload: &Workload,
+    options: &Options,
+) -> Result<Vec<f64>, String> {
+    let mut passes = Vec::new();
+    for side in sides.iter_mut() {
+        // A first run warms up and tells how many passes fill the time.
+        let timing = side.time(workload, 1)?;
+        let pass = workload.commands.len() as f64 / timing.a_second();
+        passes.push((options.seconds / pass).ceil().max(1.0) as u64);
+    }
+    let mut rounds = vec![Vec::new(); sides.len()];
+    for _ in 0..options.rounds {
+        for (place, side) in sides.iter_mut().enumerate() {
+            rounds[place].push(side.time(workload, passes[place])?.a_second());
+        }
+    }
+    Ok(rounds.into_iter().map(best).collect())
+}
+
+/// A whole program, from its start to its end, on the workload's lines.
+fn program_figure(program: &Path, workload: &Workload, options: &Options) -> Result<f64, String> {
+    let once = workload.lines();
+    let timed = |input: Vec<u8>, lines: usize| -> Result<f64, String> {
+        let (output, elapsed) =
+            run(program, None, input).map_err(|error| format!("{}: {error}", program.display()))?;
+        if output.iter().filter(|byte| **byte == b'\n').count() != lines {
+            return Err(format!("{}: not one answer for each line", program.display()));
+        }
+        Ok(lines as f64 / elapsed.as_secs_f64())
+    };
+    let lines = workload.commands.len();
+    let first = timed(once.clone(), lines)?;
+    // Enough lines that the start of the program no longer counts, and not so
+    // many that the text fills the memory.
+    let passes = (options.seconds * first / lines as f64).ceil().clamp(1.0, 40.0) as usize;
+    let mut rounds = Vec::new();
+    for _ in 0..options.rounds {
+        rounds.push(timed(once.repeat(passes), passes * lines)?);
+    }
+    Ok(best(rounds))
+}
+
+fn best(figures: Vec<f64>) -> f64 {
+    figures.into_iter().fold(0.0, f64::max)
+}
+
+/// A figure with commas between the thousands.
+fn grouped(figure: f64) -> String {
+    let digits = format!("{figure:.0}");
+    let mut text = String::new();
+    for (place, digit) in digits.chars().enumerate() {
+        if place > 0 && (digits.len() - place) % 3 == 0 {
+            text.push(',');
+        }
+        text.push(digit);
+    }
+    text
+}
+
+fn save(workloads: &[Workload], folder: &Path) -> io::Result<()> {
+    std::fs::create_dir_all(folder)?;
+    for workload in workloads {
+        let path = folder.join(workload.name).with_extension("txt");
+        std::fs::write(&path, workload.lines())?;
+        println!("{}: {} lines", path.display(), workload.commands.len());
+    }
+    Ok(())
+}

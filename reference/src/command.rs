@@ -1,0 +1,55 @@
+//! The commands and answers of the bench as values, without their text.
+
+use crate::device::{ArchiveLine, AuditLine, Cycle, Device, LogLine, Refusal, Report, Value};
+
+#[derive(Clone, Copy, Debug, PartialEq)]
+pub enum Command {
+    Start { time: u64, code2: u32, code3: u32 },
+    Cycle(Cycle),
+    Begin { door: u64 },
+    Read { door: u64, setting: u64 },
+    Write { door: u64, setting: u64, value: Value },
+    Commit { door: u64 },
+    Abandon { door: u64 },
+    Open { lock: u64, code: u32 },
+    Shut { lock: u64 },
+    Clear,
+    Report,
+    Archive { index: u64 },
+    Log { index: u64 },
+    Audit { index: u64 },
+}
+
+/// What a command that was done gives back.
+#[derive(Clone, Copy, Debug, PartialEq)]
+pub enum Done {
+    Nothing,
+    Value(Value),
+    Report(Report),
+    Archive(ArchiveLine),
+    Log(LogLine),
+    Audit(AuditLine),
+}
+
+pub type Answer = Result<Done, Refusal>;
+
+/// Puts one command to the device.
+pub fn obey(device: &mut Device, command: &Command) -> Answer {
+    let nothing = |()| Done::Nothing;
+    match *command {
+        Command::Start { time, code2, code3 } => device.start(time, code2, code3).map(nothing),
+        Command::Cycle(ref cycle) => device.cycle(cycle).map(nothing),
+        Command::Begin { door } => device.begin(door).map(nothing),
+        Command::Read { door, setting } => device.read(door, setting).map(Done::Value),
+        Command::Write { door, setting, value } => device.write(door, setting, value).map(nothing),
+        Command::Commit { door } => device.commit(door).map(nothing),
+        Command::Abandon { door } => device.abandon(door).map(nothing),
+        Command::Open { lock, code } => device.open(lock, code).map(nothing),
+        Command::Shut { lock } => device.shut(lock).map(nothing),
+        Command::Clear => device.clear().map(nothing),
+        Command::Report => device.report().map(Done::Report),
+        Command::Archive { index } => device.archive(index).map(Done::Archive),
+        Command::Log { index } => device.log(index).map(Done::Log),
+        Command::Audit { index } => device.audit(index).map(Done::Audit),
+    }
+}

@@ -1,0 +1,500 @@
+//! What the scripts have reached: each command with each answer, and the
+//! events that the rules are about.
+
+use std::fmt::Write;
+
+use crate::command::{obey, Command};
+use crate::device::{
+    factor, measured_temperature, temperature_float, Counters, Device, Value, ALARM_K, ALARM_P,
+    ALARM_T, ARCHIVE_LINES, AUDIT_LINES, KELVIN, LOG_LINES,
+};
+use crate::lines::{read_line, write_answer, Line};
+use crate::script::Script;
+
+/// The commands, with the answers that can be reached through lines. Refusals
+/// 1 and 14 are not among them: a device that is only given commands stays
+/// whole, and within the ranges of the settings no cycle's amount is a tenth
+/// of 10^17.
+const COMMANDS: [(&str, &[u8]); 14] = [
+    ("start", &[0, 6]),
+    ("cycle", &[0, 5, 6, 7]),
+    ("begin", &[0, 2, 3]),
+    ("read", &[0, 3, 4]),
+    ("write", &[0, 3, 4, 9]),
+    ("commit", &[0, 3, 4, 10, 11, 12]),
+    ("abandon", &[0, 3, 4]),
+    ("open", &[0, 3, 8]),
+    ("shut", &[0, 3]),
+    ("clear", &[0, 10]),
+    ("report", &[0]),
+    ("archive", &[0, 13]),
+    ("log", &[0, 13]),
+    ("audit", &[0, 13]),
+];
+const NUMBERS: usize = 15;
+
+fn row_of(command: &Command) -> usize {
+    match command {
+        Command::Start { .. } => 0,
+        Command::Cycle(_) => 1,
+        Command::Begin { .. } => 2,
+        Command::Read { .. } => 3,
+        Command::Write { .. } => 4,
+        Command::Commit { .. } => 5,
+        Command::Abandon { .. } => 6,
+        Command::Open { .. } => 7,
+        Command::Shut { .. } => 8,
+        Command::Clear => 9,
+        Command::Report => 10,
+        Command::Archive { .. } => 11,
+        Command::Log { .. } => 12,
+        Command::Audit { .. } => 13,
+    }
+}
+
+#[derive(Clone, Copy)]
+enum Event {
+    PressureCame,
+    TemperatureCame,
+    CompressibilityCame,
+    PressureWent,
+    TemperatureWent,
+    CompressibilityWent,
+    SensorFailedInModeZero,
+    TemperatureNotANumber,
+    TemperatureOutside,
+    TemperatureHalf,
+    FactorHalf,
+    LatchCleared,
+    LatchKept,
+    VmRollover,
+    VmDisturbedRollover,
+    VbRollover,
+    VbDisturbedRollover,
+    OneMonth,
+    FewMonths,
+    ManyMonths,
+    ThousandMonths,
+    ArchiveFull,
+    LogFull,
+    AuditFull,
+    LogNumberWrapped,
+    AuditNumberWrapped,
+    LockOpened,
+    LockShut,
+    LockAsItStood,
+    CodeWrongThoughOpen,
+    BothSessionsOpen,
+    StagedValueRead,
+    CoefficientRead,
+    CommitSeveral,
+    CommitNothing,
+    CommitEqualValue,
+    CommitMarksOther,
+    StaleWithNothingStaged,
+    StaleAndLockMissing,
+    StaleAndPair,
+    LockMissingAndPair,
+    StartRefusedInUse,
+}
+
+const EVENTS: [&str; 42] = [
+    "pressure alarm came",
+    "temperature alarm came",
+    "K alarm came",
+    "pressure alarm went",
+    "temperature alarm went",
+    "K alarm went",
+    "failed reading with the mode at 0",
+    "temperature not a number",
+    "temperature outside -10,000..20,000",
+    "temperature at a half",
+    "factor at a half",
+    "latch cleared",
+    "latch kept by a clear",
+    "Vm rolled over",
+    "VmD rolled over",
+    "Vb rolled over",
+    "VbD rolled over",
+    "one month crossed",
+    "2 to 15 months crossed at once",
+    "16 to 999 months crossed at once",
+    "1,000 months or more crossed at once",
+    "line into a full archive",
+    "line into a full logbook",
+    "line into a full audit trail",
+    "logbook number back to 0",
+    "audit number back to 0",
+    "lock opened",
+    "lock shut",
+    "lock turned to where it stood",
+    "wrong code for an open lock",
+    "both sessions open",
+    "staged value read back",
+    "coefficient read",
+    "commit of several settings",
+    "commit of none",
+    "commit of an equal value",
+    "commit of what the other door has read",
+    "stale with nothing staged",
+    "stale, and a lock missing",
+    "stale, and a pair out of order",
+    "a lock missing, and a pair out of order",
+    "refused start of a device in use",
+];
+
+#[derive(Clone)]
+pub struct Coverage {
+    answers: [[u64; NUMBERS]; COMMANDS.len()],
+    malformed: u64,
+    nothing: u64,
+    events: [u64; EVENTS.len()],
+}
+
+impl Default for Coverage {
+    fn default() -> Self {
+        Coverage {
+            answers: [[0; NUMBERS]; COMMANDS.len()],
+            malformed: 0,
+            nothing: 0,
+            events: [0; EVENTS.len()],
+        }
+    }
+}
+
+impl Coverage {
+    pub fn new() -> Coverage {
+        Coverage::default()
+    }
+
+    pub fn malformed(&self) -> u64 {
+        self.malformed
+    }
+
+    /// Lines that had an answer.
+    pub fn answered(&self) -> u64 {
+        self.malformed + self.answers.iter().flatten().sum::<u64>()
+    }
+
+    /// Answers a script by the reference and counts what it reached. Each
+    /// answer comes with the place of its line in the script.
+    pub fn answer(&mut self, script: &Script) -> Vec<(usize, Vec<u8>)> {
+        let mut device = Device::new();
+        let mut answers = Vec::with_capacity(script.lines.len());
+        for (place, line) in script.lines.iter().enumerate() {
+            match read_line(line) {
+                Line::Nothing => self.nothing += 1,
+                Line::Malformed => {
+                    self.malformed += 1;
+                    answers.push((place, b"?".to_vec()));
+                }
+                Line::Command(command) => {
+                    let before = Before::of(&device, &command);
+                    let answer = obey(&mut device, &command);
+                    let number = answer.as_ref().map_or_else(|refusal| refusal.number(), |_| 0);
+                    self.answers[row_of(&command)][usize::from(number)] += 1;
+                    self.observe(&command, number, &before, &device);
+                    let mut text = Vec::new();
+                    write_answer(&answer, &mut text);
+                    answers.push((place, text));
+                }
+            }
+        }
+        answers
+    }
+
+    fn saw(&mut self, event: Event) {
+        self.events[event as usize] += 1;
+    }
+
+    fn saw_if(&mut self, condition: bool, event: Event) {
+        if condition {
+            self.saw(event);
+        }
+    }
+
+    fn observe(&mut self, command: &Command, number: u8, before: &Before, after: &Device) {
+        self.saw_if(after.sessions[0].open && after.sessions[1].open, Event::BothSessionsOpen);
+        // Line numbers fall only when they wrap; a start sets them to 0.
+        if !matches!(command, Command::Start { .. }) {
+            self.saw_if(after.log_number < before.log_number, Event::LogNumberWrapped);
+            self.saw_if(after.audit_number < before.audit_number, Event::AuditNumberWrapped);
+            let logged = after.log_number != before.log_number;
+            self.saw_if(logged && before.log_held == LOG_LINES, Event::LogFull);
+            let audited = after.audit_number != before.audit_number;
+            self.saw_if(audited && before.audit_held == AUDIT_LINES, Event::AuditFull);
+        }
+        match *command {
+            Command::Start { .. } => {
+                self.saw_if(number == 6 && before.in_use, Event::StartRefusedInUse)
+            }
+            Command::Cycle(ref cycle) if number == 0 => {
+                self.observe_alarms(before, after);
+                self.observe_counters(before, after);
+                self.observe_months(before, after);
+                let mode = |setting| matches!(after.in_force(setting), Value::Whole(1));
+                let failed =
+                    [(4, cycle.p.is_none()), (5, cycle.raw.is_none()), (6, cycle.k.is_none())];
+                self.saw_if(
+                    failed.into_iter().any(|(setting, failed)| failed && !mode(setting)),
+                    Event::SensorFailedInModeZero,
+                );
+                if let (true, Some(raw)) = (mode(5), cycle.raw) {
+                    let [eq1, eq2, eq3] = after.coefficients();
+                    let x = temperature_float(eq1, eq2, eq3, raw);
+                    self.saw_if(x.is_nan(), Event::TemperatureNotANumber);
+                    let measured = measured_temperature(x);
+                    self.saw_if(!x.is_nan() && measured.is_none(), Event::TemperatureOutside);
+                    self.saw_if(
+                        measured.is_some() && x.fract().abs() == 0.5,
+                        Event::TemperatureHalf,
+                    );
+                }
+                self.saw_if(half_factor(after, cycle.p), Event::FactorHalf);
+            }
+            Command::Clear if number == 0 => {
+                self.saw_if(after.latched != before.latched, Event::LatchCleared);
+                self.saw_if(after.latched & after.present != 0, Event::LatchKept);
+            }
+            Command::Open { lock, .. } => {
+                let stood = (1..=3).contains(&lock) && before.locks[lock as usize - 1];
+                self.saw_if(number == 0 && !stood, Event::LockOpened);
+                self.saw_if(number == 0 && stood, Event::LockAsItStood);
+                self.saw_if(number == 8 && stood, Event::CodeWrongThoughOpen);
+            }
+            Command::Shut { lock } if number == 0 => {
+                let stood = !before.locks[lock as usize - 1];
+                self.saw_if(!stood, Event::LockShut);
+                self.saw_if(stood, Event::LockAsItStood);
+            }
+            Command::Read { setting, .. } if number == 0 => {
+                self.saw_if(before.staged >> (setting - 1) & 1 == 1, Event::StagedValueRead);
+                self.saw_if((11..=13).contains(&setting), Event::CoefficientRead);
+            }
+            Command::Commit { door } => {
+                if number == 0 {
+                    self.saw_if(before.staged.count_ones() > 1, Event::CommitSeveral);
+                    self.saw_if(before.staged == 0, Event::CommitNothing);
+                    self.saw_if(before.equal_value, Event::CommitEqualValue);
+                    let other = &after.sessions[2 - door as usize];
+                    self.saw_if(other.moved & before.staged != 0, Event::CommitMarksOther);
+                }
+                let stale = before.moved != 0;
+                self.saw_if(number == 11 && before.staged == 0, Event::StaleWithNothingStaged);
+                self.saw_if(number == 10 && stale, Event::StaleAndLockMissing);
+                self.saw_if(number == 11 && before.pair, Event::StaleAndPair);
+                self.saw_if(number == 10 && before.pair, Event::LockMissingAndPair);
+            }
+            _ => {}
+        }
+    }
+
+    fn observe_alarms(&mut self, before: &Before, after: &Device) {
+        let came = after.present & !before.present;
+        let went = before.present & !after.present;
+        for (bit, came_event, went_event) in [
+            (ALARM_P, Event::PressureCame, Event::PressureWent),
+            (ALARM_T, Event::TemperatureCame, Event::TemperatureWent),
+            (ALARM_K, Event::CompressibilityCame, Event::CompressibilityWent),
+        ] {
+            self.saw_if(came & bit != 0, came_event);
+            self.saw_if(went & bit != 0, went_event);
+        }
+    }
+
+    fn observe_counters(&mut self, before: &Before, after: &Device) {
+        let (old, new) = (&before.counters, &after.counters);
+        self.saw_if(new.vm < old.vm, Event::VmRollover);
+        self.saw_if(new.vm_disturbed < old.vm_disturbed, Event::VmDisturbedRollover);
+        self.saw_if(new.vb < old.vb, Event::VbRollover);
+        self.saw_if(new.vb_disturbed < old.vb_disturbed, Event::VbDisturbedRollover);
+    }
+
+    fn observe_months(&mut self, before: &Before, after: &Device) {
+        match after.month - before.month {
+            0 => return,
+            1 => self.saw(Event::OneMonth),
+            2..=15 => self.saw(Event::FewMonths),
+            16..=999 => self.saw(Event::ManyMonths),
+            _ => self.saw(Event::ThousandMonths),
+        }
+        self.saw_if(before.archive_held == ARCHIVE_LINES, Event::ArchiveFull);
+    }
+
+    /// What can be reached and was not.
+    pub fn missing(&self) -> Vec<String> {
+        let mut missing = Vec::new();
+        for ((name, numbers), counts) in COMMANDS.iter().zip(&self.answers) {
+            for number in *numbers {
+                if counts[usize::from(*number)] == 0 {
+                    missing.push(format!("{name} answered {number}"));
+                }
+            }
+        }
+        for (name, count) in EVENTS.iter().zip(&self.events) {
+            if *count == 0 {
+                missing.push((*name).to_string());
+            }
+        }
+        if self.malformed == 0 {
+            missing.push("malformed line".to_string());
+        }
+        if self.nothing == 0 {
+            missing.push("line that answers nothing".to_string());
+        }
+        missing
+    }
+
+    /// The table for a person. A dot stands for what cannot be reached.
+    pub fn table(&self) -> String {
+        let mut text = String::new();
+        let _ = writeln!(text, "How often each command had each answer:");
+        let used: Vec<u8> = (0..NUMBERS as u8)
+            .filter(|number| COMMANDS.iter().any(|(_, numbers)| numbers.contains(number)))
+            .collect();
+        let _ = write!(text, "{:9}", "");
+        for number in &used {
+            let _ = write!(text, "{number:>9}");
+        }
+        text.push('\n');
+        for ((name, numbers), counts) in COMMANDS.iter().zip(&self.answers) {
+            let _ = write!(text, "{name:9}");
+            for number in &used {
+                let count = counts[usize::from(*number)];
+                if numbers.contains(number) || count != 0 {
+                    let _ = write!(text, "{count:>9}");
+                } else {
+                    let _ = write!(text, "{:>9}", ".");
+                }
+            }
+            text.push('\n');
+        }
+        let _ = writeln!(text, "malformed lines: {}", self.malformed);
+        let _ = writeln!(text, "lines that answer nothing: {}", self.nothing);
+        let _ = writeln!(text, "How often each event was reached:");
+        for (name, count) in EVENTS.iter().zip(&self.events) {
+            let _ = writeln!(text, "{count:>9}  {name}");
+        }
+        let missing = self.missing();
+        if missing.is_empty() {
+            let _ = writeln!(text, "Everything that can be reached was reached.");
+        } else {
+            let _ = writeln!(text, "Not reached: {}.", missing.join("; "));
+        }
+        text
+    }
+}
+
+/// Whether the factor of the cycle just done was exactly a half before
+/// rounding. Only seen where temperature and K are fixed, which is where the
+/// generator brings it about.
+fn half_factor(device: &Device, p: Option<u64>) -> bool {
+    let whole = |setting| match device.in_force(setting) {
+        Value::Whole(value) => value,
+        Value::Coefficient(_) => 0,
+    };
+    let Some(p) = p else { return false };
+    if whole(5) != 0 || whole(6) != 0 || whole(4) != 1 || device.present != 0 {
+        return false;
+    }
+    let (pb, tb, k) = (whole(2) as u64, whole(3) as u64, whole(16) as u64);
+    let t = (whole(15) + KELVIN) as u64;
+    let denominator = u128::from(pb) * u128::from(t) * u128::from(k);
+    let numerator = u128::from(p) * u128::from(tb) * 1_000_000_000;
+    2 * (factor(p, pb, t, tb, k) * denominator).abs_diff(numerator) == denominator
+}
+
+/// What a command may change or depend on, as it was before.
+struct Before {
+    month: u32,
+    counters: Counters,
+    present: u8,
+    latched: u8,
+    locks: [bool; 3],
+    log_number: u16,
+    audit_number: u16,
+    archive_held: usize,
+    log_held: usize,
+    audit_held: usize,
+    in_use: bool,
+    /// Of the session at the command's door.
+    staged: u32,
+    moved: u32,
+    /// A staged value is the one in force.
+    equal_value: bool,
+    /// A pair would be out of order.
+    pair: bool,
+}
+
+impl Before {
+    fn of(device: &Device, command: &Command) -> Before {
+        let door = match *command {
+            Command::Read { door, .. } | Command::Commit { door } => door,
+            _ => 0,
+        };
+        let session =
+            if (1..=2).contains(&door) { Some(&device.sessions[door as usize - 1]) } else { None };
+        let staged = session.map_or(0, |session| session.staged);
+        let after = |setting: usize| match session {
+            Some(session) if staged >> (setting - 1) & 1 == 1 => session.cells[setting - 1] as i64,
+            _ => device.settings[setting - 1] as i64,
+        };
+        let equal_value = session.is_some_and(|session| {
+            (0..session.cells.len())
+                .any(|row| staged >> row & 1 == 1 && session.cells[row] == device.settings[row])
+        });
+        Before {
+            month: device.month,
+            counters: device.counters,
+            present: device.present,
+            latched: device.latched,
+            locks: device.locks,
+            log_number: device.log_number,
+            audit_number: device.audit_number,
+            archive_held: device.archive.held,
+            log_held: device.log.held,
+            audit_held: device.audit_held(),
+            in_use: device.time != 0 && device.codes != [0, 0],
+            staged,
+            moved: session.map_or(0, |session| session.moved),
+            equal_value,
+            pair: after(7) > after(8) || after(9) > after(10),
+        }
+    }
+}
+
+#[cfg(test)]
+mod tests {
+    use super::*;
+    use crate::generate::{long_script, random_script, Rng};
+
+    /// The generator must reach everything within the steps of one run of the
+    /// continuous build, whatever the seed.
+    #[test]
+    fn the_generator_reaches_everything() {
+        for seed in [1, 2, 3] {
+            let mut rng = Rng::new(seed);
+            let mut coverage = Coverage::new();
+            coverage.answer(&long_script(&mut rng));
+            let long = coverage.answered();
+            while coverage.answered() < long + 200_000 {
+                coverage.answer(&random_script(&mut rng));
+            }
+            assert_eq!(coverage.missing(), Vec::<String>::new(), "seed {seed}");
+        }
+    }
+
+    #[test]
+    fn no_command_has_an_answer_outside_the_table() {
+        let mut rng = Rng::new(7);
+        let mut coverage = Coverage::new();
+        for _ in 0..50 {
+            coverage.answer(&random_script(&mut rng));
+        }
+        for ((name, numbers), counts) in COMMANDS.iter().zip(&coverage.answers) {
+            for (number, count) in counts.iter().enumerate() {
+                assert!(*count == 0 || numbers.contains(&(number as u8)), "{name} {number}");
+            }
+        }
+    }
+}

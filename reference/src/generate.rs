@@ -1,0 +1,1479 @@
+//! Random scripts.
+//!
+//! Lines drawn at random alone would be refused nearly always. So a device is
+//! carried along while the script is made, and what it holds steers the next
+//! lines to where the rules change their answer: the ends of ranges, the edge
+//! of a month, a setting that the other door has just read. What the answer
+//! must be plays no part here.
+
+use crate::calendar::{first_second, month_of_time};
+use crate::command::{obey, Command};
+use crate::device::{
+    temperature_float, Cycle, Device, Range, Value, ARCHIVE_LINES, AUDIT_LINES, LOG_LINES, N_LIMIT,
+    RULES, SETTINGS, TIME_LIMIT, VM_MODULUS,
+};
+use crate::lines::{read_line, write_command, Line, LONGEST_LINE};
+use crate::script::Script;
+
+/// A small generator of random numbers (SplitMix64): the same seed gives the
+/// same scripts on every machine.
+#[derive(Clone, Debug)]
+pub struct Rng(u64);
+
+impl Rng {
+    pub fn new(seed: u64) -> Rng {
+        Rng(seed)
+    }
+
+    /// Any 64-bit number.
+    pub fn any(&mut self) -> u64 {
+        self.0 = self.0.wrapping_add(0x9e37_79b9_7f4a_7c15);
+        let mut z = self.0;
+        z = (z ^ (z >> 30)).wrapping_mul(0xbf58_476d_1ce4_e5b9);
+        z = (z ^ (z >> 27)).wrapping_mul(0x94d0_49bb_1331_11eb);
+        z ^ (z >> 31)
+    }
+
+    /// A number from 0 up to, but not including, the count.
+    pub fn below(&mut self, count: u64) -> u64 {
+        ((u128::from(self.any()) * u128::from(count)) >> 64) as u64
+    }
+
+    /// True once in so many times.
+    pub fn one_in(&mut self, count: u64) -> bool {
+        self.below(count) == 0
+    }
+
+    pub fn percent(&mut self, percent: u64) -> bool {
+        self.below(100) < percent
+    }
+
+    /// A whole number from low to high, ends included.
+    pub fn between(&mut self, low: i64, high: i64) -> i64 {
+        low.wrapping_add(self.below((high - low) as u64 + 1) as i64)
+    }
+
+    pub fn pick<T: Copy>(&mut self, from: &[T]) -> T {
+        from[self.below(from.len() as u64) as usize]
+    }
+}
+
+/// A random script of some thousand lines.
+pub fn random_script(rng: &mut Rng) -> Script {
+    let length = 300 + rng.below(5_000) as usize;
+    let mut writer = Writer::new(rng);
+    // Without a start the device must be as start time 0 and codes 0 give.
+    if writer.rng.percent(80) {
+        writer.start();
+    }
+    while writer.lines.len() < length {
+        writer.stretch();
+    }
+    if writer.rng.percent(40) {
+        writer.dump();
+    } else {
+        writer.glance();
+    }
+    writer.finish()
+}
+
+/// A script of mostly malformed lines and random bytes, with enough good ones
+/// among them to show a later answer spoiled.
+pub fn fuzz_script(rng: &mut Rng) -> Script {
+    let length = 300 + rng.below(4_000) as usize;
+    let mut writer = Writer::new(rng);
+    while writer.lines.len() < length {
+        match writer.rng.below(100) {
+            0..=54 => writer.malformed_line(),
+            55..=74 => writer.random_line(),
+            75..=84 => writer.alphabet_line(),
+            85..=97 => writer.anything(),
+            98 => writer.glance(),
+            _ => {
+                if writer.rng.one_in(8) {
+                    writer.long_line();
+                }
+            }
+        }
+    }
+    if writer.rng.percent(20) {
+        writer.dump();
+    } else {
+        writer.glance();
+    }
+    writer.finish()
+}
+
+/// One line far longer than any that means something, and a good one after it.
+pub fn giant_script(rng: &mut Rng) -> Script {
+    let mut writer = Writer::new(rng);
+    let mut giant = b"report ".to_vec();
+    while giant.len() < 8_000_000 {
+        giant.push(writer.byte());
+    }
+    writer.push(giant);
+    writer.push(b"report".to_vec());
+    writer.finish()
+}
+
+/// One long script that no random one reaches the end of: both counters of
+/// both units roll over, and the line numbers of both books pass 65,535.
+pub fn long_script(rng: &mut Rng) -> Script {
+    let mut writer = Writer::new(rng);
+    writer.no_noise = true;
+    let codes = [writer.rng.any() as u32, writer.rng.any() as u32];
+    writer.say(Command::Start { time: 0, code2: codes[0], code3: codes[1] });
+    writer.say(Command::Open { lock: 1, code: 0 });
+    writer.put_in_force(1, &[(1, Value::Whole(4)), (6, Value::Whole(1))]);
+    // 60,000,000 litres a cycle, every second one disturbed, and six logbook
+    // lines every two cycles. Vm lands on its modulus exactly and Vb, at a
+    // factor of 1, on its own; VmD passes over it.
+    for round in 0..33_400_u64 {
+        let time = writer.model.time + writer.rng.below(10_000);
+        let disturbed = round % 2 == 1;
+        let room = (VM_MODULUS - writer.model.counters.vm) / 100_000;
+        writer.say(Command::Cycle(Cycle {
+            time,
+            n: if disturbed { N_LIMIT } else { N_LIMIT.min(room) },
+            raw: (!disturbed).then_some(5_120),
+            p: (!disturbed).then_some(101_325),
+            k: (!disturbed).then_some(10_000),
+        }));
+        if round % 64 == 0 || writer.near_rollover() {
+            writer.say(Command::Report);
+        }
+        if round % 256 == 0 || (21_750..21_950).contains(&round) {
+            let index = writer.rng.below(4);
+            writer.say(Command::Log { index });
+        }
+    }
+    writer.dump();
+    // All 21 settings at every commit, at either door in turn.
+    for round in 0..3_150_u64 {
+        let door = 1 + round % 2;
+        writer.say(Command::Begin { door });
+        for setting in 1..=SETTINGS {
+            let value = writer.good_value(setting);
+            writer.say(Command::Write { door, setting: setting as u64, value });
+        }
+        // The values were drawn apart, so the pairs are put in order.
+        for low in [7, 9] {
+            let mut ends = [writer.staged_whole(door, low), writer.staged_whole(door, low + 1)];
+            ends.sort_unstable();
+            for (place, value) in ends.into_iter().enumerate() {
+                let setting = low as u64 + place as u64;
+                writer.say(Command::Write { door, setting, value: Value::Whole(value) });
+            }
+        }
+        writer.say(Command::Commit { door });
+        if round % 64 == 0 || round > 3_115 {
+            let index = writer.rng.below(AUDIT_LINES as u64);
+            writer.say(Command::Audit { index });
+            writer.say(Command::Audit { index: 0 });
+        }
+    }
+    writer.dump();
+    writer.finish()
+}
+
+/// Commands for the measure of speed: working days with every command in them,
+/// well formed and mostly accepted.
+pub fn mixed_commands(seed: u64, count: usize) -> Vec<Command> {
+    let mut rng = Rng::new(seed);
+    let mut writer = Writer::new(&mut rng);
+    writer.no_noise = true;
+    writer.keep_commands = true;
+    writer.say(Command::Start { time: 0, code2: 1_234, code3: 5_678 });
+    while writer.commands.len() < count {
+        match writer.rng.below(100) {
+            0..=59 => writer.day_cycle(),
+            60..=69 => writer.say(Command::Report),
+            70..=79 => writer.look(),
+            80..=89 => writer.day_session(),
+            90..=94 => {
+                let lock = 1 + writer.rng.below(3);
+                writer.open_lock(lock);
+            }
+            95..=96 => {
+                let lock = 1 + writer.rng.below(3);
+                writer.say(Command::Shut { lock });
+            }
+            97..=98 => writer.say(Command::Clear),
+            _ => {
+                let lock = 2 + writer.rng.below(2);
+                writer.say(Command::Open { lock, code: 1 });
+            }
+        }
+    }
+    writer.commands.truncate(count);
+    writer.commands
+}
+
+/// Cycles for the measure of speed, after a start: all accepted, one in a
+/// hundred of them disturbed.
+pub fn accepted_cycles(seed: u64, count: usize) -> Vec<Command> {
+    let mut rng = Rng::new(seed);
+    let mut commands = vec![Command::Start { time: 0, code2: 0, code3: 0 }];
+    let mut time = 0;
+    for _ in 0..count {
+        time += rng.below(120);
+        commands.push(Command::Cycle(Cycle {
+            time,
+            n: rng.below(N_LIMIT + 1),
+            raw: Some(rng.between(5_000, 10_000) as u16),
+            p: (!rng.one_in(100)).then(|| rng.between(95_000, 600_000) as u64),
+            k: Some(rng.between(9_000, 10_000) as u64),
+        }));
+    }
+    commands
+}
+
+/// Writes a script and carries the device along.
+struct Writer<'a> {
+    rng: &'a mut Rng,
+    model: Device,
+    lines: Vec<Vec<u8>>,
+    commands: Vec<Command>,
+    keep_commands: bool,
+    /// No malformed lines, remarks or odd spellings in between.
+    no_noise: bool,
+}
+
+impl<'a> Writer<'a> {
+    fn new(rng: &'a mut Rng) -> Self {
+        Writer {
+            rng,
+            model: Device::new(),
+            lines: Vec::new(),
+            commands: Vec::new(),
+            keep_commands: false,
+            no_noise: false,
+        }
+    }
+
+    fn finish(self) -> Script {
+        let open_end = !self.no_noise
+            && self.lines.last().is_some_and(|line| !line.is_empty())
+            && self.rng.percent(20);
+        Script { lines: self.lines, open_end }
+    }
+
+    fn say(&mut self, command: Command) {
+        if self.keep_commands {
+            let _ = obey(&mut self.model, &command);
+            self.commands.push(command);
+            return;
+        }
+        let mut line = Vec::new();
+        write_command(&command, &mut line);
+        if !self.no_noise {
+            if self.rng.one_in(60) {
+                self.malformed_line();
+            }
+            if self.rng.one_in(100) {
+                let remark = self.remark();
+                self.push(remark);
+            }
+            if self.rng.one_in(50) {
+                line = self.with_leading_zeros(line);
+            }
+        }
+        self.push(line);
+    }
+
+    /// Adds a line and lets the model answer it, whatever it is.
+    fn push(&mut self, line: Vec<u8>) {
+        if let Line::Command(command) = read_line(&line) {
+            let _ = obey(&mut self.model, &command);
+        }
+        self.lines.push(line);
+    }
+
+    /// Some hundred lines with one thing in mind.
+    fn stretch(&mut self) {
+        let until = self.lines.len() + 20 + self.rng.below(300) as usize;
+        // The end of the century leaves nothing to do but to start again.
+        if self.model.time > TIME_LIMIT - 40_000_000 && self.rng.percent(70) {
+            self.start();
+        }
+        match self.rng.below(12) {
+            0 | 1 => {
+                while self.lines.len() < until {
+                    self.everyday();
+                }
+            }
+            2 => self.metering(until),
+            3 | 4 => self.racing(until),
+            5 => self.pairs(until),
+            6 => self.calendar(until),
+            7 => self.books(until),
+            8 => self.coefficients(until),
+            9 => self.big_factor(),
+            10 => self.halves(),
+            _ => {
+                while self.lines.len() < until {
+                    self.anything();
+                }
+            }
+        }
+        if self.rng.percent(50) {
+            self.say(Command::Report);
+        }
+    }
+
+    // ---- stretches ----
+
+    fn everyday(&mut self) {
+        match self.rng.below(100) {
+            0..=39 => self.everyday_cycle(),
+            40..=49 => self.say(Command::Report),
+            50..=59 => self.look(),
+            60..=79 => self.everyday_session(),
+            80..=85 => {
+                let lock = 1 + self.rng.below(3);
+                self.open_lock(lock);
+            }
+            86..=89 => {
+                let lock = 1 + self.rng.below(3);
+                self.say(Command::Shut { lock });
+            }
+            90..=92 => self.say(Command::Clear),
+            _ => self.anything(),
+        }
+    }
+
+    /// Readings around every limit that a reading has.
+    fn metering(&mut self, until: usize) {
+        if self.rng.percent(60) {
+            self.open_lock(1);
+            let modes: Vec<(usize, Value)> = [4, 5, 6]
+                .into_iter()
+                .map(|setting| (setting, Value::Whole(i64::from(!self.rng.one_in(4)))))
+                .collect();
+            self.put_in_force(1, &modes);
+        }
+        while self.lines.len() < until {
+            let cycle = self.edge_cycle();
+            self.say(Command::Cycle(cycle));
+            if self.rng.percent(25) {
+                self.say(Command::Report);
+            }
+            if self.rng.percent(10) {
+                let index = self.rng.below(7);
+                self.say(Command::Log { index });
+            }
+            if self.rng.percent(6) {
+                if self.rng.percent(30) {
+                    self.open_lock(2);
+                }
+                self.say(Command::Clear);
+            }
+        }
+    }
+
+    /// Sessions at both doors over the same few settings.
+    fn racing(&mut self, until: usize) {
+        let mut hot = [0; 3];
+        for setting in &mut hot {
+            *setting = 1 + self.rng.below(SETTINGS as u64) as usize;
+        }
+        if self.rng.percent(80) {
+            let lock = 1 + self.rng.below(2);
+            self.open_lock(lock);
+        }
+        while self.lines.len() < until {
+            let door = 1 + self.rng.below(2);
+            let setting = self.rng.pick(&hot);
+            if !self.model.sessions[door as usize - 1].open && !self.rng.one_in(12) {
+                self.say(Command::Begin { door });
+                continue;
+            }
+            match self.rng.below(100) {
+                0..=33 => self.say(Command::Read { door, setting: setting as u64 }),
+                34..=61 => {
+                    let value = if self.rng.percent(90) {
+                        self.good_value(setting)
+                    } else {
+                        self.any_value(setting)
+                    };
+                    self.say(Command::Write { door, setting: setting as u64, value });
+                }
+                62..=83 => self.say(Command::Commit { door }),
+                84..=87 => self.say(Command::Abandon { door }),
+                88..=89 => self.say(Command::Begin { door }),
+                90..=92 => {
+                    let index = self.rng.below(4);
+                    self.say(Command::Audit { index });
+                }
+                93..=95 => self.everyday_cycle(),
+                96..=97 => {
+                    let lock = 1 + self.rng.below(3);
+                    self.open_lock(lock);
+                }
+                _ => {
+                    let lock = 1 + self.rng.below(3);
+                    self.say(Command::Shut { lock });
+                }
+            }
+        }
+    }
+
+    /// The pairs 7/8 and 9/10, staged apart and together, near each other.
+    fn pairs(&mut self, until: usize) {
+        self.open_lock(1);
+        while self.lines.len() < until {
+            let door = 1 + self.rng.below(2);
+            let low = self.rng.pick(&[7, 9]);
+            let pivot = match RULES[low - 1].range {
+                Range::Whole { low, high } => self.rng.between(low + 2, high - 2),
+                Range::Finite => 0,
+            };
+            if !self.model.sessions[door as usize - 1].open {
+                self.say(Command::Begin { door });
+            }
+            for setting in [low, low + 1] {
+                if self.rng.percent(60) {
+                    let near = self.rng.between(-1, 1);
+                    let value = match self.rng.below(4) {
+                        0 => self.whole_in_force(setting),
+                        1 => self.whole_in_force(low) + near,
+                        2 => self.whole_in_force(low + 1) + near,
+                        _ => pivot + near,
+                    };
+                    let value = Value::Whole(value);
+                    self.say(Command::Write { door, setting: setting as u64, value });
+                }
+                if self.rng.percent(10) {
+                    self.say(Command::Read { door, setting: setting as u64 });
+                }
+            }
+            if self.rng.percent(85) {
+                self.say(Command::Commit { door });
+            }
+            if self.rng.percent(4) {
+                // A lock missing comes before a pair out of order.
+                self.say(Command::Shut { lock: 1 });
+                self.say(Command::Commit { door });
+                self.open_lock(1);
+            }
+            if self.rng.percent(10) {
+                let cycle = self.edge_cycle();
+                self.say(Command::Cycle(cycle));
+            }
+        }
+    }
+
+    /// Times at the edges of months, and jumps over many.
+    fn calendar(&mut self, until: usize) {
+        while self.lines.len() < until {
+            let now = self.model.time;
+            let month = month_of_time(now);
+            let time = match self.rng.below(100) {
+                0..=29 => now + self.rng.below(1_000_000),
+                30..=44 => first_second(month + 1),
+                45..=59 => first_second(month + 1) - 1,
+                60..=79 => {
+                    let later = month + 1 + self.rng.below(20) as u32;
+                    first_second(later) + self.rng.below(3) - 1
+                }
+                80..=83 => now + self.rng.below(TIME_LIMIT - now),
+                84 => TIME_LIMIT - 1,
+                85 => TIME_LIMIT,
+                86..=88 => now.saturating_sub(1 + self.rng.below(3)),
+                _ => now + self.rng.below(90_000),
+            };
+            let mut cycle = self.good_cycle();
+            cycle.time = time;
+            self.say(Command::Cycle(cycle));
+            if self.rng.percent(40) {
+                let index = self.index(self.model.archive.held, ARCHIVE_LINES);
+                self.say(Command::Archive { index });
+            }
+            if self.rng.percent(3) {
+                for index in 0..=ARCHIVE_LINES as u64 {
+                    self.say(Command::Archive { index });
+                }
+            }
+            if self.model.time > TIME_LIMIT - 40_000_000 && self.rng.percent(30)
+                || self.rng.one_in(40)
+            {
+                self.start();
+                if self.rng.percent(50) {
+                    // A whole century, and a thousand months, in one step.
+                    let mut cycle = self.good_cycle();
+                    cycle.time = if self.rng.percent(50) {
+                        TIME_LIMIT - 1
+                    } else {
+                        first_second(1_000 + self.rng.below(199) as u32)
+                    };
+                    self.say(Command::Cycle(cycle));
+                }
+            }
+        }
+    }
+
+    /// Many lines into the logbook and the audit trail, and looks at them.
+    fn books(&mut self, until: usize) {
+        self.open_lock(1);
+        while self.lines.len() < until {
+            match self.rng.below(10) {
+                0..=4 => {
+                    for _ in 0..self.rng.below(30) {
+                        let lock = 1 + self.rng.below(3);
+                        if self.model.locks[lock as usize - 1] {
+                            self.say(Command::Shut { lock });
+                        } else {
+                            self.open_lock(lock);
+                        }
+                    }
+                }
+                5 | 6 => {
+                    self.open_lock(1);
+                    let door = 1 + self.rng.below(2);
+                    let mut values = Vec::new();
+                    for setting in [14, 15, 16, 17, 18, 19, 20, 21, 11, 12, 13, 2, 3] {
+                        if self.rng.percent(70) {
+                            values.push((setting, self.good_value(setting)));
+                        }
+                    }
+                    self.put_in_force(door, &values);
+                }
+                7 => {
+                    let index = self.index(self.model.log.held, LOG_LINES);
+                    self.say(Command::Log { index });
+                }
+                8 => {
+                    let index = self.index(self.model.audit_held(), AUDIT_LINES);
+                    self.say(Command::Audit { index });
+                }
+                _ => {
+                    let cycle = self.edge_cycle();
+                    self.say(Command::Cycle(cycle));
+                }
+            }
+        }
+    }
+
+    /// The temperature equation at its edges. What it gives shows in Vb.
+    fn coefficients(&mut self, until: usize) {
+        self.open_lock(1);
+        let limits = [(9, Value::Whole(-10_000)), (10, Value::Whole(20_000))];
+        self.put_in_force(1, &[(1, Value::Whole(4)), (5, Value::Whole(1)), limits[0], limits[1]]);
+        while self.lines.len() < until {
+            let (set, raw) = if self.rng.percent(50) {
+                let (set, raw) = self.half_set();
+                (set, Some(raw))
+            } else {
+                (self.coefficient_set(), None)
+            };
+            let values: Vec<(usize, Value)> =
+                (11..).zip(set.into_iter().map(Value::Coefficient)).collect();
+            let door = 1 + self.rng.below(2);
+            self.open_lock(1);
+            self.put_in_force(door, &values);
+            let cycles = if raw.is_some() { 1 } else { 1 + self.rng.below(4) };
+            for _ in 0..cycles {
+                let mut cycle = self.good_cycle();
+                cycle.raw = Some(raw.unwrap_or_else(|| self.raw()));
+                cycle.n = 1 + self.rng.below(N_LIMIT);
+                self.say(Command::Cycle(cycle));
+                self.say(Command::Report);
+            }
+        }
+        if self.rng.percent(70) {
+            self.factory_coefficients();
+        }
+    }
+
+    /// The largest amounts there are, until Vb or VbD rolls over.
+    fn big_factor(&mut self) {
+        let measured = self.rng.percent(50);
+        self.open_lock(1);
+        self.put_in_force(
+            1,
+            &[
+                (1, Value::Whole(4)),
+                (2, Value::Whole(90_000)),
+                (3, Value::Whole(29_815)),
+                (4, Value::Whole(1)),
+                (5, Value::Whole(0)),
+                (6, Value::Whole(0)),
+                (8, Value::Whole(10_000_000)),
+                (14, Value::Whole(10_000_000)),
+                (15, Value::Whole(-10_000)),
+                (16, Value::Whole(5_000)),
+            ],
+        );
+        for _ in 0..20 + self.rng.below(90) {
+            let time = self.model.time + self.rng.below(100);
+            let p = measured.then_some(10_000_000);
+            self.say(Command::Cycle(Cycle { time, n: N_LIMIT, raw: None, p, k: None }));
+            if self.rng.percent(30) {
+                self.say(Command::Report);
+            }
+        }
+        let factory: Vec<(usize, Value)> = [1, 2, 3, 5, 8, 14, 15, 16]
+            .map(|setting| (setting, RULES[setting - 1].factory))
+            .to_vec();
+        self.put_in_force(2, &factory);
+    }
+
+    /// Factors that are exactly a half before rounding: p is then counted in
+    /// half hundred-thousandths.
+    fn halves(&mut self) {
+        self.open_lock(1);
+        self.put_in_force(
+            1,
+            &[
+                (2, Value::Whole(100_000)),
+                (3, Value::Whole(27_315)),
+                (4, Value::Whole(1)),
+                (5, Value::Whole(0)),
+                (6, Value::Whole(0)),
+                (7, Value::Whole(10_000)),
+                (8, Value::Whole(10_000_000)),
+                (15, Value::Whole(0)),
+                (16, Value::Whole(20_000)),
+            ],
+        );
+        for _ in 0..5 + self.rng.below(20) {
+            let time = self.model.time + self.rng.below(100);
+            let p = Some(self.rng.between(10_000, 200_000) as u64);
+            self.say(Command::Cycle(Cycle { time, n: 1, raw: None, p, k: None }));
+            self.say(Command::Report);
+        }
+        let factory: Vec<(usize, Value)> =
+            [2, 5, 7, 8, 15, 16].map(|setting| (setting, RULES[setting - 1].factory)).to_vec();
+        self.put_in_force(2, &factory);
+    }
+
+    /// Any command with any arguments.
+    fn anything(&mut self) {
+        let command = match self.rng.below(120) {
+            0 => {
+                self.start();
+                return;
+            }
+            1..=20 => {
+                let mut cycle = self.edge_cycle();
+                cycle.time = self.any_time();
+                if self.rng.one_in(12) {
+                    cycle.n = self.rng.pick(&[601, 602, 65_536, 1 << 32, u64::MAX]);
+                }
+                Command::Cycle(cycle)
+            }
+            21..=30 => Command::Begin { door: self.door() },
+            31..=42 => Command::Read { door: self.door(), setting: self.setting() },
+            43..=60 => {
+                let setting = self.setting();
+                let kind = setting.clamp(1, SETTINGS as u64) as usize;
+                let value =
+                    if self.rng.percent(60) { self.good_value(kind) } else { self.any_value(kind) };
+                Command::Write { door: self.door(), setting, value }
+            }
+            61..=70 => Command::Commit { door: self.door() },
+            71..=74 => Command::Abandon { door: self.door() },
+            75..=84 => {
+                let lock = self.lock();
+                let code = match self.rng.below(4) {
+                    0 => self.rng.pick(&[0, 1, u32::MAX]),
+                    // The other lock's code, and a bit beside the right one.
+                    1 => self.model.codes[self.rng.below(2) as usize],
+                    2 => self.code_of(lock) ^ 1 << self.rng.below(32),
+                    _ => self.code_of(lock),
+                };
+                Command::Open { lock, code }
+            }
+            85..=89 => Command::Shut { lock: self.lock() },
+            90..=93 => Command::Clear,
+            94..=101 => Command::Report,
+            102..=107 => {
+                Command::Archive { index: self.index(self.model.archive.held, ARCHIVE_LINES) }
+            }
+            108..=113 => Command::Log { index: self.index(self.model.log.held, LOG_LINES) },
+            _ => Command::Audit { index: self.index(self.model.audit_held(), AUDIT_LINES) },
+        };
+        self.say(command);
+    }
+
+    // ---- a few lines ----
+
+    fn start(&mut self) {
+        let time = match self.rng.below(12) {
+            0..=2 => 0,
+            3..=6 => self.rng.below(TIME_LIMIT),
+            7 => first_second(self.rng.below(1_200) as u32),
+            8 => first_second(1 + self.rng.below(1_200) as u32) - 1,
+            9 => TIME_LIMIT - 1 - self.rng.below(4_000_000),
+            10 => TIME_LIMIT - self.rng.below(2),
+            _ => self.rng.pick(&[TIME_LIMIT, TIME_LIMIT + 1, 1 << 32, u64::MAX]),
+        };
+        let code2 = self.code();
+        let code3 = if self.rng.one_in(4) { code2 } else { self.code() };
+        self.say(Command::Start { time, code2, code3 });
+    }
+
+    fn everyday_cycle(&mut self) {
+        let cycle = if self.rng.percent(80) { self.good_cycle() } else { self.edge_cycle() };
+        self.say(Command::Cycle(cycle));
+    }
+
+    /// A look into one of the books.
+    fn look(&mut self) {
+        let command = match self.rng.below(3) {
+            0 => Command::Archive { index: self.index(self.model.archive.held, ARCHIVE_LINES) },
+            1 => Command::Log { index: self.index(self.model.log.held, LOG_LINES) },
+            _ => Command::Audit { index: self.index(self.model.audit_held(), AUDIT_LINES) },
+        };
+        self.say(command);
+    }
+
+    fn everyday_session(&mut self) {
+        let door = 1 + self.rng.below(2);
+        self.say(Command::Begin { door });
+        for _ in 0..self.rng.below(4) {
+            let setting = 1 + self.rng.below(SETTINGS as u64);
+            if self.rng.percent(50) {
+                self.say(Command::Read { door, setting });
+            } else {
+                let value = self.good_value(setting as usize);
+                self.say(Command::Write { door, setting, value });
+            }
+        }
+        match self.rng.below(10) {
+            0 => {}
+            1 | 2 => self.say(Command::Abandon { door }),
+            _ => self.say(Command::Commit { door }),
+        }
+    }
+
+    /// A cycle some minutes after the last, seldom with an alarm.
+    fn day_cycle(&mut self) {
+        let edge = self.rng.one_in(50);
+        let mut cycle = if edge { self.edge_cycle() } else { self.good_cycle() };
+        cycle.time = self.model.time + self.rng.below(600);
+        self.say(Command::Cycle(cycle));
+    }
+
+    /// A session that leaves the measuring itself alone.
+    fn day_session(&mut self) {
+        let door = 1 + self.rng.below(2);
+        if !self.model.sessions[door as usize - 1].open {
+            self.say(Command::Begin { door });
+        }
+        for _ in 0..self.rng.below(4) {
+            let setting = self.rng.pick(&[2, 3, 14, 15, 16, 17, 18, 19, 20, 21]);
+            if self.rng.percent(50) {
+                self.say(Command::Read { door, setting });
+            } else {
+                let value = self.good_value(setting as usize);
+                self.say(Command::Write { door, setting, value });
+            }
+        }
+        match self.rng.below(10) {
+            0 => {}
+            1 => self.say(Command::Abandon { door }),
+            _ => self.say(Command::Commit { door }),
+        }
+    }
+
+    /// Begins afresh at a door and puts values in force there, if the locks
+    /// that stand open allow it.
+    fn put_in_force(&mut self, door: u64, values: &[(usize, Value)]) {
+        if self.model.sessions[door as usize - 1].open {
+            self.say(Command::Abandon { door });
+        }
+        self.say(Command::Begin { door });
+        for &(setting, value) in values {
+            self.say(Command::Write { door, setting: setting as u64, value });
+        }
+        self.say(Command::Commit { door });
+    }
+
+    fn factory_coefficients(&mut self) {
+        self.open_lock(1);
+        let factory: Vec<(usize, Value)> =
+            [9, 10, 11, 12, 13].map(|setting| (setting, RULES[setting - 1].factory)).to_vec();
+        self.put_in_force(1, &factory);
+    }
+
+    fn open_lock(&mut self, lock: u64) {
+        let code = self.code_of(lock);
+        self.say(Command::Open { lock, code });
+    }
+
+    /// All that can be seen of the device.
+    fn dump(&mut self) {
+        self.say(Command::Report);
+        for index in 0..=ARCHIVE_LINES as u64 {
+            self.say(Command::Archive { index });
+        }
+        for index in 0..=LOG_LINES as u64 {
+            self.say(Command::Log { index });
+        }
+        for index in 0..=AUDIT_LINES as u64 {
+            self.say(Command::Audit { index });
+        }
+        self.read_all();
+    }
+
+    /// Most of what can be seen, in a few lines.
+    fn glance(&mut self) {
+        self.say(Command::Report);
+        for _ in 0..6 {
+            self.look();
+        }
+        self.read_all();
+    }
+
+    fn read_all(&mut self) {
+        let door = 1 + self.rng.below(2);
+        if !self.model.sessions[door as usize - 1].open {
+            self.say(Command::Begin { door });
+        }
+        for setting in 1..=SETTINGS as u64 {
+            self.say(Command::Read { door, setting });
+        }
+        self.say(Command::Abandon { door });
+    }
+
+    // ---- arguments ----
+
+    fn good_cycle(&mut self) -> Cycle {
+        let p = self.rng.between(self.whole_in_force(7), self.whole_in_force(8)) as u64;
+        let t = self.rng.between(self.whole_in_force(9), self.whole_in_force(10));
+        Cycle {
+            time: self.near_time(),
+            n: self.pulses(),
+            raw: Some(self.raw_near(t)),
+            p: Some(p),
+            k: Some(self.rng.between(5_000, 20_000) as u64),
+        }
+    }
+
+    /// A cycle with readings at and beside their limits, and failures.
+    fn edge_cycle(&mut self) -> Cycle {
+        let p_min = self.whole_in_force(7) as u64;
+        let p_max = self.whole_in_force(8) as u64;
+        let mut cycle = self.good_cycle();
+        if self.rng.percent(60) {
+            cycle.p = match self.rng.below(10) {
+                0 | 1 => None,
+                2 => Some(p_min),
+                3 => Some(p_min - 1),
+                4 => Some(p_max),
+                5 => Some(p_max + 1),
+                6 => Some(self.rng.pick(&[
+                    0,
+                    9_999,
+                    10_000,
+                    10_000_001,
+                    u64::MAX,
+                    (1 << 32) + p_min,
+                ])),
+                _ => Some(self.rng.between(10_000, 10_000_000) as u64),
+            };
+        }
+        if self.rng.percent(60) {
+            cycle.raw = if self.rng.one_in(6) { None } else { Some(self.raw()) };
+        }
+        if self.rng.percent(60) {
+            cycle.k = match self.rng.below(8) {
+                0 | 1 => None,
+                2 => Some(5_000),
+                3 => Some(4_999),
+                4 => Some(20_000),
+                5 => Some(20_001),
+                6 => Some(self.rng.pick(&[0, 1, 65_536, (1 << 32) + 10_000, u64::MAX])),
+                _ => Some(self.rng.between(5_000, 20_000) as u64),
+            };
+        }
+        if self.rng.one_in(60) {
+            cycle.n = self.rng.pick(&[601, 1_000, u64::MAX]);
+        }
+        cycle
+    }
+
+    fn pulses(&mut self) -> u64 {
+        match self.rng.below(10) {
+            0 => 0,
+            1 => 1,
+            2 | 3 => N_LIMIT,
+            _ => self.rng.below(N_LIMIT + 1),
+        }
+    }
+
+    fn near_time(&mut self) -> u64 {
+        let now = self.model.time;
+        let step = match self.rng.below(20) {
+            0..=4 => 0,
+            5..=16 => self.rng.below(4_000),
+            17 => self.rng.below(100_000),
+            18 => self.rng.below(700_000),
+            _ => return first_second(month_of_time(now) + 1).min(TIME_LIMIT - 1),
+        };
+        (now + step).min(TIME_LIMIT - 1)
+    }
+
+    fn any_time(&mut self) -> u64 {
+        let now = self.model.time;
+        match self.rng.below(40) {
+            0 | 1 => now.saturating_sub(1),
+            2 => self.rng.below(now + 1),
+            3 => 0,
+            4 => self.rng.pick(&[
+                TIME_LIMIT,
+                TIME_LIMIT + 1,
+                u64::from(u32::MAX),
+                (1 << 32) + now,
+                1 << 63,
+                u64::MAX,
+            ]),
+            _ => self.near_time(),
+        }
+    }
+
+    fn door(&mut self) -> u64 {
+        match self.rng.below(30) {
+            0 => 0,
+            1 => self.rng.pick(&[3, 4, 255, 256, 257, 1 << 32 | 1, u64::MAX]),
+            _ => 1 + self.rng.below(2),
+        }
+    }
+
+    fn setting(&mut self) -> u64 {
+        match self.rng.below(30) {
+            0 => 0,
+            1 => self.rng.pick(&[22, 23, 255, 257, 1 << 32 | 5, u64::MAX]),
+            _ => 1 + self.rng.below(SETTINGS as u64),
+        }
+    }
+
+    fn lock(&mut self) -> u64 {
+        match self.rng.below(20) {
+            0 => 0,
+            1 => self.rng.pick(&[4, 5, 256, 258, 1 << 32 | 2, u64::MAX]),
+            _ => 1 + self.rng.below(3),
+        }
+    }
+
+    fn code(&mut self) -> u32 {
+        match self.rng.below(4) {
+            0 => 0,
+            1 => self.rng.pick(&[1, 9_999, 1 << 31, u32::MAX]),
+            _ => self.rng.any() as u32,
+        }
+    }
+
+    /// The right code; any for lock 1, which ignores it.
+    fn code_of(&mut self, lock: u64) -> u32 {
+        match lock {
+            2 => self.model.codes[0],
+            3 => self.model.codes[1],
+            _ => self.rng.any() as u32,
+        }
+    }
+
+    /// A place in a book: held, at the end of what is held, or beyond.
+    fn index(&mut self, held: usize, size: usize) -> u64 {
+        let (held, size) = (held as u64, size as u64);
+        match self.rng.below(20) {
+            0..=3 => 0,
+            4..=12 => self.rng.below(held.max(1)),
+            13 | 14 => held.max(1) - 1,
+            15 => held,
+            16 => size - 1,
+            17 => size,
+            18 => self.rng.below(size),
+            _ => self.rng.pick(&[held + 1, size + 1, 256, 1 << 32, 1 << 63, u64::MAX]),
+        }
+    }
+
+    fn whole_in_force(&self, setting: usize) -> i64 {
+        match self.model.in_force(setting) {
+            Value::Whole(value) => value,
+            Value::Coefficient(_) => 0,
+        }
+    }
+
+    fn staged_whole(&self, door: u64, setting: usize) -> i64 {
+        self.model.sessions[door as usize - 1].cells[setting - 1] as i64
+    }
+
+    fn near_rollover(&self) -> bool {
+        let counters = &self.model.counters;
+        [counters.vm, counters.vm_disturbed].into_iter().any(|litres| {
+            let step = 120_000_000;
+            litres < step || litres + step >= VM_MODULUS
+        })
+    }
+
+    /// A value that the setting takes.
+    fn good_value(&mut self, setting: usize) -> Value {
+        match RULES[setting - 1].range {
+            Range::Whole { low, high } => Value::Whole(match self.rng.below(10) {
+                0 => low,
+                1 => high,
+                2 => (self.whole_in_force(setting) + self.rng.between(-1, 1)).clamp(low, high),
+                3 | 4 => match RULES[setting - 1].factory {
+                    Value::Whole(value) => value,
+                    Value::Coefficient(_) => low,
+                },
+                _ => self.rng.between(low, high),
+            }),
+            Range::Finite => {
+                let set = self.coefficient_set();
+                Value::Coefficient(set[setting - 11])
+            }
+        }
+    }
+
+    /// A value that the setting may refuse.
+    fn any_value(&mut self, setting: usize) -> Value {
+        // Good when only its lower half is looked at.
+        let half_good = (1 << 32) + self.whole_in_force(setting);
+        let odd_whole = |rng: &mut Rng| {
+            let shift = rng.below(64);
+            let wide = rng.any() as i64 >> shift;
+            let ends = [i64::MIN, i64::MAX, -1, 0, 1, half_good, half_good, wide, wide, wide];
+            Value::Whole(rng.pick(&ends))
+        };
+        let odd_float = |rng: &mut Rng| {
+            let random = f64::from_bits(rng.any());
+            let payload = f64::from_bits(0x7ff0_0000_0000_0000 | rng.any() >> 12);
+            let negative = f64::from_bits(0xfff0_0000_0000_0000 | rng.any() >> 12);
+            let floats = [
+                f64::INFINITY,
+                f64::NEG_INFINITY,
+                f64::NAN,
+                payload,
+                negative,
+                f64::MAX,
+                f64::MIN,
+                random,
+                f64::from_bits(0x7ff0_0000_0000_0001),
+            ];
+            Value::Coefficient(rng.pick(&floats))
+        };
+        let rule = &RULES[setting - 1];
+        match (rule.range, self.rng.below(10)) {
+            (Range::Whole { low, .. }, 0..=2) => Value::Whole(low - 1),
+            (Range::Whole { high, .. }, 3..=5) => Value::Whole(high + 1),
+            (Range::Whole { .. }, 6 | 7) => odd_whole(self.rng),
+            (Range::Whole { low, .. }, 8) => Value::Coefficient(low as f64),
+            (Range::Finite, 0..=6) => odd_float(self.rng),
+            (Range::Finite, 7 | 8) => odd_whole(self.rng),
+            _ if self.rng.percent(50) => odd_float(self.rng),
+            _ => odd_whole(self.rng),
+        }
+    }
+
+    /// Three finite coefficients that lead somewhere near a limit or a half.
+    fn coefficient_set(&mut self) -> [f64; 3] {
+        let step = |x: f64, up: bool| {
+            let bits = x.to_bits();
+            f64::from_bits(if up { bits.wrapping_add(1) } else { bits.saturating_sub(1) })
+        };
+        match self.rng.below(12) {
+            // Eq1 alone: x is Eq1 times 100, at a half and beside it.
+            0..=3 => {
+                let half = self.rng.between(-10_001, 20_000) as f64 + 0.5;
+                let eq1 = half / 100.0;
+                let up = self.rng.percent(50);
+                let near = if self.rng.percent(50) { eq1 } else { step(eq1, up) };
+                [if near.is_finite() { near } else { eq1 }, 0.0, 0.0]
+            }
+            // The ends of the range, and the floats beside them.
+            4 => {
+                let end = self.rng.pick(&[-100.0, 200.0]);
+                let up = self.rng.percent(50);
+                [if self.rng.percent(40) { end } else { step(end, up) }, 0.0, 0.0]
+            }
+            // Zeros of either sign, and the smallest floats.
+            5 => {
+                let small = [
+                    0.0,
+                    -0.0,
+                    5e-324,
+                    -5e-324,
+                    f64::MIN_POSITIVE,
+                    0.005,
+                    -0.005,
+                    -0.0025,
+                    0.004999999999999999,
+                ];
+                [self.rng.pick(&small), self.rng.pick(&small), 0.0]
+            }
+            // Overflow, and infinity less infinity.
+            6 => {
+                let large = [f64::MAX, f64::MIN, 1e300, -1e300, 1e306, 1e305, -1e306];
+                [self.rng.pick(&large), self.rng.pick(&large), self.rng.pick(&large)]
+            }
+            7 => {
+                // Any finite bits at all.
+                let mut set = [0.0; 3];
+                for x in &mut set {
+                    let any = f64::from_bits(self.rng.any());
+                    *x = if any.is_finite() { any } else { 1.0 };
+                }
+                set
+            }
+            8 | 9 => {
+                // A real sensor: a slope and a slight bend, rounded anyhow.
+                let eq1 = self.rng.between(-60_000, 60_000) as f64 / 1_000.0;
+                let eq2 = self.rng.between(-10_000, 10_000) as f64 / 1_000_000.0;
+                let eq3 = self.rng.between(-1_000, 1_000) as f64 / 1e11;
+                [eq1, eq2, eq3]
+            }
+            10 => {
+                // Halves through the slope: b counts half hundredths.
+                let eq1 = self.rng.between(-100, 100) as f64;
+                [eq1, self.rng.pick(&[0.005, -0.005, 0.0025, 0.00125]), 0.0]
+            }
+            _ => [-40.0, 0.0078125, 0.0],
+        }
+    }
+
+    /// A slope and a bend with a raw temperature at which all of them together
+    /// come to a half, or to the float beside one. Only there does the order
+    /// of the six operations show: in a whole number of hundredths a last
+    /// digit of the float is lost everywhere else.
+    fn half_set(&mut self) -> ([f64; 3], u16) {
+        let raw = 1 + self.rng.below(65_535) as u16;
+        let b = f64::from(raw);
+        let half = self.rng.between(-10_000, 19_999) as f64 + 0.5;
+        // Terms of about the size of their sum, so that each has a last digit
+        // that counts.
+        let mut share = || self.rng.between(-1_500_000, 1_500_000) as f64 / 1e6;
+        let eq2 = half / 100.0 * share() / b;
+        let eq3 = half / 100.0 * share() / (b * b);
+        let eq1 = half / 100.0 - eq2 * b - eq3 * (b * b);
+        let mut set = [eq1, eq2, eq3];
+        for _ in 0..8 {
+            let bits = eq1.to_bits().wrapping_add_signed(self.rng.between(-6, 6));
+            let near = f64::from_bits(bits);
+            if near.is_finite() {
+                set[0] = near;
+            }
+            if temperature_float(set[0], eq2, eq3, raw) == half {
+                break;
+            }
+        }
+        (set, raw)
+    }
+
+    /// A raw temperature near every place where something changes.
+    fn raw(&mut self) -> u16 {
+        match self.rng.below(8) {
+            0 => self.rng.pick(&[0, 1, 2, 32_767, 32_768, 65_534, 65_535]),
+            1 => self.rng.any() as u16,
+            2 | 3 => self.raw_near(self.whole_in_force(9)),
+            4 | 5 => self.raw_near(self.whole_in_force(10)),
+            _ => {
+                let t = self.rng.between(self.whole_in_force(9), self.whole_in_force(10));
+                self.raw_near(t)
+            }
+        }
+    }
+
+    /// A raw temperature that gives about t, as far as the line of the first
+    /// two coefficients tells.
+    fn raw_near(&mut self, t: i64) -> u16 {
+        let [eq1, eq2, _] = self.model.coefficients();
+        let b = (t as f64 / 100.0 - eq1) / eq2;
+        // A cast from a float saturates, and takes a NaN to 0.
+        (b as i32).saturating_add(self.rng.between(-1, 1) as i32).clamp(0, 65_535) as u16
+    }
+
+    // ---- lines that are not commands ----
+
+    fn remark(&mut self) -> Vec<u8> {
+        match self.rng.below(5) {
+            0 | 1 => Vec::new(),
+            2 => b"#".to_vec(),
+            3 => b"# report".to_vec(),
+            _ => {
+                let mut line = vec![b'#'];
+                for _ in 0..self.rng.below(400) {
+                    line.push(self.byte());
+                }
+                line
+            }
+        }
+    }
+
+    /// Any byte but the line feed.
+    fn byte(&mut self) -> u8 {
+        loop {
+            let byte = self.rng.any() as u8;
+            if byte != b'\n' {
+                return byte;
+            }
+        }
+    }
+
+    fn random_line(&mut self) {
+        let most = self.rng.pick(&[4, 30, 300]);
+        let length = self.rng.below(most);
+        let line = (0..length).map(|_| self.byte()).collect();
+        self.push(line);
+    }
+
+    /// Random letters of those that commands are made of.
+    fn alphabet_line(&mut self) {
+        const WORDS: [&str; 34] = [
+            "start",
+            "cycle",
+            "begin",
+            "commit",
+            "abandon",
+            "read",
+            "write",
+            "open",
+            "shut",
+            "clear",
+            "report",
+            "archive",
+            "log",
+            "audit",
+            "w",
+            "c",
+            "-",
+            "#",
+            "?",
+            "0",
+            "1",
+            "2",
+            "3",
+            "21",
+            "22",
+            "600",
+            "601",
+            "65535",
+            "65536",
+            "4294967296",
+            "7ff0000000000000",
+            "3FF0000000000000",
+            "18446744073709551615",
+            "18446744073709551616",
+        ];
+        let mut line = Vec::new();
+        if self.rng.percent(70) {
+            for _ in 0..self.rng.below(8) {
+                if !line.is_empty() {
+                    line.push(b' ');
+                }
+                line.extend_from_slice(self.rng.pick(&WORDS).as_bytes());
+            }
+        } else {
+            for _ in 0..self.rng.below(20) {
+                line.push(self.rng.pick(b"0123456789abcdefw -#+\t\rloga"));
+            }
+        }
+        self.push(line);
+    }
+
+    /// A line longer than any buffer one would think of.
+    fn long_line(&mut self) {
+        let length = 1_000 + self.rng.below(100_000) as usize;
+        let mut line = self.well_formed();
+        let filler = self.rng.pick(b" 0x#\0");
+        line.resize(length, filler);
+        self.push(line);
+    }
+
+    fn with_leading_zeros(&mut self, line: Vec<u8>) -> Vec<u8> {
+        let mut words: Vec<Vec<u8>> =
+            line.split(|byte| *byte == b' ').map(<[u8]>::to_vec).collect();
+        let place = self.rng.below(words.len() as u64) as usize;
+        let word = &mut words[place];
+        // Not into a coefficient: its digits are counted.
+        let digits = usize::from(word[0] == b'-');
+        if word.len() > digits && word.len() < 16 && word[digits..].iter().all(u8::is_ascii_digit) {
+            let zeros = if self.rng.percent(80) {
+                1 + self.rng.below(4)
+            } else {
+                // About as many as the longest line takes, or too many.
+                (LONGEST_LINE - line.len()) as u64 - 1 + self.rng.below(3)
+            };
+            for _ in 0..zeros {
+                word.insert(digits, b'0');
+            }
+        } else if word == b"0" {
+            word.insert(0, b'-');
+        }
+        words.join(&b' ')
+    }
+
+    /// A good command's line, to be spoiled.
+    fn well_formed(&mut self) -> Vec<u8> {
+        let time = self.model.time;
+        let command = match self.rng.below(14) {
+            0 => Command::Start { time, code2: self.code(), code3: self.code() },
+            1..=3 => Command::Cycle(self.edge_cycle()),
+            4 => Command::Begin { door: self.door() },
+            5 => Command::Commit { door: self.door() },
+            6 => Command::Read { door: self.door(), setting: self.setting() },
+            7 | 8 => {
+                let setting = 1 + self.rng.below(SETTINGS as u64);
+                let value = self.any_value(setting as usize);
+                Command::Write { door: self.door(), setting, value }
+            }
+            9 => Command::Open { lock: self.lock(), code: self.code() },
+            10 => Command::Shut { lock: self.lock() },
+            11 => self.rng.pick(&[Command::Clear, Command::Report, Command::Abandon { door: 1 }]),
+            12 => Command::Archive { index: self.rng.below(16) },
+            _ => self.rng.pick(&[Command::Log { index: 0 }, Command::Audit { index: 3 }]),
+        };
+        let mut line = Vec::new();
+        write_command(&command, &mut line);
+        line
+    }
+
+    /// A good line with one thing wrong. Some of these are good lines still;
+    /// the reader decides.
+    fn malformed_line(&mut self) {
+        let line = self.well_formed();
+        let mut words: Vec<Vec<u8>> =
+            line.split(|byte| *byte == b' ').map(<[u8]>::to_vec).collect();
+        let count = words.len() as u64;
+        let place = self.rng.below(count) as usize;
+        let last = words.len() - 1;
+        let mut line = match self.rng.below(24) {
+            0 => {
+                words.remove(place);
+                words.join(&b' ')
+            }
+            1 => {
+                let extra = self.rng.pick(&["0", "1", "-", "w", "report"]);
+                words.insert(place + 1, extra.as_bytes().to_vec());
+                words.join(&b' ')
+            }
+            2 => {
+                words.insert(place, Vec::new());
+                words.join(&b' ')
+            }
+            3 => [line, b" ".to_vec()].concat(),
+            4 => [b" ".to_vec(), line].concat(),
+            5 => [line, b"\r".to_vec()].concat(),
+            6 => line.to_ascii_uppercase(),
+            7 => {
+                let big = self.rng.pick(&[
+                    "18446744073709551616",
+                    "18446744073709551620",
+                    "28446744073709551615",
+                    "99999999999999999999",
+                    "184467440737095516150",
+                    "340282366920938463463374607431768211456",
+                ]);
+                words[last] = big.as_bytes().to_vec();
+                words.join(&b' ')
+            }
+            8 => {
+                words[last].insert(0, b'+');
+                words.join(&b' ')
+            }
+            9 => {
+                words[last].insert(0, b'-');
+                words.join(&b' ')
+            }
+            10 => {
+                words[place] =
+                    self.rng.pick(&["-", "--", "-1", "+1", "0x1", "1.0", "1e3", "1_000"]).into();
+                words.join(&b' ')
+            }
+            11 => {
+                words[0] = self
+                    .rng
+                    .pick(&["Start", "cycles", "cycl", "beginn", "comit", "?", "help", "0", "logs"])
+                    .into();
+                words.join(&b' ')
+            }
+            12 => {
+                let separator = self.rng.pick(b"\t\r\x0b\0,;");
+                words.join(&separator)
+            }
+            13 => {
+                let at = self.rng.below(line.len() as u64) as usize;
+                let mut line = line;
+                line[at] = self.byte();
+                line
+            }
+            14 => {
+                let at = self.rng.below(line.len() as u64 + 1) as usize;
+                let mut line = line;
+                let byte = self.byte();
+                line.insert(at, byte);
+                line
+            }
+            15 => {
+                let mut line = line;
+                line.truncate(self.rng.below(line.len() as u64) as usize);
+                line
+            }
+            16 => {
+                let hex = self.rng.pick(&[
+                    "3ff000000000000",
+                    "3ff00000000000000",
+                    "3FF0000000000000",
+                    "0x3ff00000000000",
+                    "3ff000000000000g",
+                    "-3ff000000000000",
+                    "3ff00000 0000000",
+                    "",
+                ]);
+                format!("write {} 11 c {hex}", self.door()).into()
+            }
+            17 => {
+                let value = self.rng.pick(&[
+                    "9223372036854775808",
+                    "-9223372036854775809",
+                    "-9223372036854775808",
+                    "9223372036854775807",
+                    "-18446744073709551616",
+                    "18446744073709551615",
+                    "--1",
+                    "-",
+                    "+0",
+                    "-0",
+                    "- 1",
+                    "1-",
+                ]);
+                format!("write {} 21 w {value}", self.door()).into()
+            }
+            18 => {
+                let raw = self.rng.pick(&["65536", "65535", "-1", "100000", "00065535", "--"]);
+                format!("cycle {} 0 {raw} - -", self.model.time).into()
+            }
+            19 => {
+                let code =
+                    self.rng.pick(&["4294967296", "4294967295", "-1", "-", "", "8589934592"]);
+                format!("open 1 {code}").into()
+            }
+            20 => {
+                let kind = self.rng.pick(&["W", "C", "x", "wc", "-", "0", "w w"]);
+                format!("write 1 16 {kind} 10000").into()
+            }
+            21 => (0..1 + self.rng.below(300)).map(|_| b' ').collect(),
+            22 => {
+                // Around the longest line there is.
+                let mut line = b"report".to_vec();
+                let length = LONGEST_LINE - 1 + self.rng.below(3) as usize;
+                if self.rng.percent(50) {
+                    line = b"log ".to_vec();
+                    line.resize(length, b'0');
+                } else {
+                    line.resize(length, b' ');
+                }
+                line
+            }
+            _ => {
+                // Two commands on one line.
+                let second = self.well_formed();
+                [line, b" ".to_vec(), second].concat()
+            }
+        };
+        line.retain(|byte| *byte != b'\n');
+        self.push(line);
+    }
+}

@@ -1,0 +1,148 @@
+//! The programs themselves: `answer` as its own bench, and benches with a
+//! fault that `compare` must find.
+#![cfg(unix)]
+
+use std::fs;
+use std::os::unix::fs::PermissionsExt;
+use std::path::PathBuf;
+use std::process::{Command, Output};
+
+use corrector_reference::cases;
+use corrector_reference::coverage::Coverage;
+
+const ANSWER: &str = env!("CARGO_BIN_EXE_answer");
+
+fn compare(arguments: &[&str]) -> Output {
+    Command::new(env!("CARGO_BIN_EXE_compare")).args(arguments).output().expect("compare runs")
+}
+
+fn text(output: &Output) -> String {
+    String::from_utf8_lossy(&output.stdout).into_owned()
+}
+
+/// A bench made of `answer` and a shell line.
+fn faulty_bench(name: &str, shell: &str) -> PathBuf {
+    let folder = PathBuf::from(env!("CARGO_TARGET_TMPDIR"));
+    let path = folder.join(name);
+    fs::write(&path, format!("#!/bin/sh\n{}\n", shell.replace("ANSWER", ANSWER))).unwrap();
+    fs::set_permissions(&path, fs::Permissions::from_mode(0o755)).unwrap();
+    path
+}
+
+#[track_caller]
+fn finds(name: &str, shell: &str, arguments: &[&str]) -> String {
+    let bench = faulty_bench(name, shell);
+    let mut all = vec!["--bench", bench.to_str().unwrap(), "--seed", "5", "--shrink", "20"];
+    all.extend_from_slice(arguments);
+    let output = compare(&all);
+    assert_eq!(output.status.code(), Some(1), "{}", text(&output));
+    text(&output)
+}
+
+#[test]
+fn the_reference_gives_the_kept_answers() {
+    let cases = cases::load(&cases::default_place()).unwrap();
+    assert!(!cases.is_empty());
+    for case in cases {
+        assert_eq!(case.reference_differs(&mut Coverage::new()), None, "case {}", case.name);
+    }
+}
+
+#[test]
+fn no_difference_to_itself() {
+    let output = compare(&["--bench", ANSWER, "--steps", "30000", "--seed", "1", "--coverage"]);
+    assert_eq!(output.status.code(), Some(0), "{}", text(&output));
+    let text = text(&output);
+    assert!(text.starts_with("seed 1\n"), "{text}");
+    assert!(text.contains("How often each command had each answer"), "{text}");
+    assert!(text.trim_end().ends_with("no difference (seed 1)"), "{text}");
+    let output = compare(&["--bench", ANSWER, "--fuzz", "20000"]);
+    assert_eq!(output.status.code(), Some(0), "{}", String::from_utf8_lossy(&output.stdout));
+}
+
+#[test]
+fn a_wrong_answer_is_found_and_cut_down() {
+    // A bench that never finds a commit stale. The kept cases would tell at
+    // once, so that they are left aside.
+    let empty = PathBuf::from(env!("CARGO_TARGET_TMPDIR")).join("no-cases");
+    fs::create_dir_all(&empty).unwrap();
+    let out = finds(
+        "never-stale",
+        "exec ANSWER | sed -u 's/^11$/0/'",
+        &["--cases", empty.to_str().unwrap(), "--no-long"],
+    );
+    let story: Vec<&str> = out
+        .lines()
+        .skip_while(|line| !line.starts_with("the shortest script found"))
+        .skip(1)
+        .collect();
+    // Lock, begin, read, begin, write, commit, commit and the bench's answer.
+    assert!(story.len() <= 8, "{out}");
+    assert!(story.last().unwrap().contains("the bench: 0"), "{out}");
+}
+
+#[test]
+fn a_bench_that_stops_is_found() {
+    let out = finds("stops", "head -n 3 | ANSWER", &["--cases-only"]);
+    assert!(out.contains("(no answer)"), "{out}");
+}
+
+#[test]
+fn a_bench_with_another_status_is_found() {
+    let out = finds("status", "ANSWER; exit 3", &["--cases-only"]);
+    assert!(out.contains("exit status: 3"), "{out}");
+}
+
+#[test]
+fn a_bench_that_says_too_much_is_found() {
+    finds("says-more", "ANSWER; echo", &["--cases-only"]);
+}
+
+#[test]
+fn a_bench_that_hangs_is_found() {
+    let out = finds("hangs", "ANSWER; exec sleep 30", &["--cases-only", "--limit", "1"]);
+    assert!(out.contains("did not end in time"), "{out}");
+}
+
+#[test]
+fn a_bench_that_holds_its_answers_back_is_found() {
+    let shell = "input=$(cat; echo x); printf '%s' \"${input%x}\" | ANSWER";
+    let empty = PathBuf::from(env!("CARGO_TARGET_TMPDIR")).join("no-cases-either");
+    fs::create_dir_all(&empty).unwrap();
+    let arguments = ["--cases", empty.to_str().unwrap(), "--limit", "2", "--steps", "100"];
+    let out = finds("holds-back", shell, &arguments);
+    assert!(out.contains("holds its answers back"), "{out}");
+}
+
+#[test]
+fn wrong_arguments() {
+    assert_eq!(compare(&[]).status.code(), Some(2));
+    assert_eq!(compare(&["--steps", "many", "--bench", ANSWER]).status.code(), Some(2));
+    assert_eq!(compare(&["--bench", "no/such/program"]).status.code(), Some(2));
+    assert_eq!(compare(&["--help"]).status.code(), Some(0));
+}
+
+#[test]
+fn speed_prints_its_table() {
+    let output = Command::new(env!("CARGO_BIN_EXE_speed"))
+        .args(["--rounds", "1", "--seconds", "0.01", "--bench", ANSWER])
+        .output()
+        .expect("speed runs");
+    let text = text(&output);
+    assert!(output.status.success(), "{text}");
+    assert!(text.contains("Rust reference"), "{text}");
+    assert!(text.contains("\nbench "), "{text}");
+}
+
+/// A timing program joins the table as the other side.
+#[test]
+fn speed_takes_the_figures_of_a_timing_program() {
+    let program = faulty_bench("timing", "cat > /dev/null; echo \"$(( $1 * 1000 )) 1000000\"");
+    let output = Command::new(env!("CARGO_BIN_EXE_speed"))
+        .args(["--rounds", "1", "--seconds", "0.01", "--device", program.to_str().unwrap()])
+        .output()
+        .expect("speed runs");
+    let text = text(&output);
+    assert!(output.status.success(), "{text}");
+    assert!(text.contains("ratio, Rattle to Rust"), "{text}");
+}
