@@ -1,12 +1,18 @@
 -- The tests on answers are tests of equality: an answer that passes is the one the row gives.
 -- Assumes nothing.
-use mathlib.Core.Path.{_≡_, refl, ap}
-use mathlib.Core.Bool.{Bool, true, false}
-use lib.Dec.{T, eqb→eq}
+use mathlib.Core.Path.{_≡_, refl, sym, ap}
+use mathlib.Core.Bool.{Bool, true, false, _&&_}
+use mathlib.Core.List.{List, [], _∷_}
+use Prim.Native.Nat.{ℕ}
+use lib.Dec.{T, eqb, eqb→eq}
 use lib.IntN.{ℤ, pos, negsuc}
+use Rattle.ground.proofs.Flags.{and-left, and-right, to-T, of-T}
+use Rattle.units.specs.Units.{litresOf, baseOf}
+use Rattle.state.specs.declared.Alarms.{Alarms}
+use Rattle.state.specs.declared.Counters.{Counters}
 use Rattle.temperature.specs.declared.Measured.{Measured}
 use Rattle.temperature.specs.declared.Measured.the-variants.{Failed, Hundredths}
-use Rattle.cases.specs.Cases.{sameWhole, sameMeasured}
+use Rattle.cases.specs.Cases.{sameWhole, sameMeasured, sameNumbers, sameFlag, sameAlarms, sameCounters}
 
 pub same-whole : (a b : ℤ) → T (sameWhole a b) → a ≡ b
 unfolding sameWhole
@@ -21,3 +27,55 @@ same-measured Failed Failed t = refl
 same-measured Failed (Hundredths b) t = absurd t
 same-measured (Hundredths a) Failed t = absurd t
 same-measured (Hundredths a) (Hundredths b) t = ap Hundredths (same-whole a b t)
+
+-- both tests of a pair
+left : (a b : Bool) → T (a && b) → T a
+left a b t = to-T (and-left a b (of-T (a && b) t))
+
+right : (a b : Bool) → T (a && b) → T b
+right a b t = to-T (and-right a b (of-T (a && b) t))
+
+pub same-numbers : (xs ys : List ℕ) → T (sameNumbers xs ys) → xs ≡ ys
+unfolding sameNumbers
+same-numbers [] [] t = refl
+same-numbers [] (y ∷ ys) t = absurd t
+same-numbers (x ∷ xs) [] t = absurd t
+same-numbers (x ∷ xs) (y ∷ ys) t =
+    let e : x ≡ y = eqb→eq x y (left (eqb x y) (sameNumbers xs ys) t) in
+    let f : xs ≡ ys = same-numbers xs ys (right (eqb x y) (sameNumbers xs ys) t) in
+    rw (e, f)
+
+pub same-flag : (a b : Bool) → T (sameFlag a b) → a ≡ b
+unfolding sameFlag
+same-flag true true t = refl
+same-flag true false t = absurd t
+same-flag false true t = absurd t
+same-flag false false t = refl
+
+pub same-alarms : (a : Alarms) (p t k : Bool) → T (sameAlarms a p t k) → a ≡ record { p = p; t = t; k = k }
+unfolding sameAlarms
+same-alarms a p t k h =
+    let one : Bool = sameFlag (a .p) p in
+    let two : Bool = sameFlag (a .t) t in
+    let three : Bool = sameFlag (a .k) k in
+    let both : T (one && two) = left (one && two) three h in
+    let e : a .p ≡ p = same-flag (a .p) p (left one two both) in
+    let f : a .t ≡ t = same-flag (a .t) t (right one two both) in
+    let g : a .k ≡ k = same-flag (a .k) k (right (one && two) three h) in
+    rw (e, f, g)
+
+pub same-counters : (c : Counters) (vm vmd vb vbd : ℕ) → T (sameCounters c vm vmd vb vbd)
+    → c ≡ record { vm = litresOf vm; vmd = litresOf vmd; vb = baseOf vb; vbd = baseOf vbd }
+unfolding sameCounters
+same-counters c vm vmd vb vbd h =
+    let one : Bool = eqb (c .vm .0) vm in
+    let two : Bool = eqb (c .vmd .0) vmd in
+    let three : Bool = eqb (c .vb .0) vb in
+    let four : Bool = eqb (c .vbd .0) vbd in
+    let most : T (one && two && three) = left (one && two && three) four h in
+    let both : T (one && two) = left (one && two) three most in
+    let e : c .vm .0 ≡ vm = eqb→eq (c .vm .0) vm (left one two both) in
+    let f : c .vmd .0 ≡ vmd = eqb→eq (c .vmd .0) vmd (right one two both) in
+    let g : c .vb .0 ≡ vb = eqb→eq (c .vb .0) vb (right (one && two) three most) in
+    let i : c .vbd .0 ≡ vbd = eqb→eq (c .vbd .0) vbd (right (one && two && three) four h) in
+    rw (sym e, sym f, sym g, sym i)

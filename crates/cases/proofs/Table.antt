@@ -1,13 +1,31 @@
--- Every row of the table of cases by hand holds: the checker computes each answer from the definitions that the contracts cite.
+-- Every row of the table of cases by hand holds: the checker computes each answer from the definitions that the contracts cite, and so
+-- opens them all.
 -- Assumes nothing.
 use mathlib.Core.Path.{_≡_, refl}
 use mathlib.Core.Bool.{true}
-use lib.Ieee.{ofBits}
-use Rattle.factor.specs.Factor.{factorTaken, inRanges, inRange, factorOf, nearestFraction}
-use Rattle.readings.specs.Kelvin.{kelvinOf}
+use lib.Ieee.{ofBits, ofInt, add, mul}
+use Rattle.ground.specs.Below.{allBelow, anyBelow}
+use Rattle.calendar.specs.Calendar.{leapYear, daysIn, daysOf, firstDay, monthStart, lastBegun, monthOf}
+use Rattle.units.specs.Units.{litresShown, baseShown, plusLitres, plusBase, pulseLitres, convertedOf, amountsOf}
+use Rattle.settings.specs.Settings.{rows, rowOf, isFinite, withinB, fitsRow, fitsB, factoryOf, factorySettings, opensB, rightB, fitsAt, settingsFitB, inOrder, orderedB}
+use Rattle.factor.specs.Factor.{nearestFraction, factorOf, inRange, inRanges, factorTaken}
+use Rattle.temperature.specs.Equation.{equationOf}
 use Rattle.temperature.specs.Nearest.{nearestOf}
-use Rattle.cases.specs.Cases.{sameWhole, sameMeasured, holds, allHold, table}
+use Rattle.readings.specs.Taken.{takenWithin}
+use Rattle.readings.specs.Pressure.{pressureRead, pressureTaken}
+use Rattle.readings.specs.Compressibility.{kRead, kTaken}
+use Rattle.readings.specs.Temperature.{measuredTaken, temperatureRead, temperatureTaken}
+use Rattle.readings.specs.Kelvin.{kelvinOf}
+use Rattle.ring.specs.Ring.{ringAfter, bookAfter, onFrom, slotAfter, lineNumber, advancedRing, advancedBook, placeOf, ringB, numberB, bookB}
+use Rattle.ring.specs.Store.{listed, stored, written, lineAt, heldLines}
+use Rattle.notes.specs.Notes.{numbered, logged}
+use Rattle.state.specs.State.{noSession, noAlarm, nothingCounted, shutLocks, freshCore, fresh, countersB, latchedB, storesB, cellB, cellsB, sessionB, coreB, wholeB, withCore}
+use Rattle.cycle.specs.Cycle.{monthsFrom, monthsCrossed, archiveLine, monthLines, coefficientsIn, temperatureFor, pressureFor, kFor, alarmsFor, factorFor, amountsFor, isTooLarge, anyAlarm, counted, latchesAfter, changes, cycleRefusal, cycledCore, cycled, cycleOf}
+use Rattle.panel.specs.Panel.{lockIn, withLock, rightCode, turnCodes, turnedCore, turned, openRefusal, openOf}
+use Rattle.doors.specs.Doors.{sessionAt, otherAt, placed, withSession, cellAt, withCell, begun, beginRefusal, beginOf, readRefusal, valueRead, markedRead, readAfter, readOf, writeRefusal, stagedCell, writeAfter, writeOf, missingAt, lockMissing, overtakenAt, staleB, standsAt, asStand, commitRefusal, lineFor, auditOf, commitLines, markedBy, overtakenBy, overtakenSession, committedCore, committed, refusedCommit, commitOf}
+use Rattle.cases.specs.Runs.{blank, told, ran, monthsHeld}
+use Rattle.cases.specs.Cases.{sameWhole, sameMeasured, sameNumbers, sameFlag, sameAlarms, sameCounters, ranTo, holds, allHold, factoryDevice, withVm, table}
 
 pub every-row-holds : allHold table ≡ true
-unfolding table allHold holds sameWhole sameMeasured factorTaken inRanges inRange factorOf nearestFraction kelvinOf nearestOf ofBits
+unfolding ofBits ofInt add mul allBelow anyBelow leapYear daysIn daysOf firstDay monthStart lastBegun monthOf litresShown baseShown plusLitres plusBase pulseLitres convertedOf amountsOf rows rowOf isFinite withinB fitsRow fitsB factoryOf factorySettings opensB rightB fitsAt settingsFitB inOrder orderedB nearestFraction factorOf inRange inRanges factorTaken equationOf nearestOf takenWithin pressureRead pressureTaken kRead kTaken measuredTaken temperatureRead temperatureTaken kelvinOf ringAfter bookAfter onFrom slotAfter lineNumber advancedRing advancedBook placeOf ringB numberB bookB listed stored written lineAt heldLines numbered logged noSession noAlarm nothingCounted shutLocks freshCore fresh countersB latchedB storesB cellB cellsB sessionB coreB wholeB withCore monthsFrom monthsCrossed archiveLine monthLines coefficientsIn temperatureFor pressureFor kFor alarmsFor factorFor amountsFor isTooLarge anyAlarm counted latchesAfter changes cycleRefusal cycledCore cycled cycleOf lockIn withLock rightCode turnCodes turnedCore turned openRefusal openOf sessionAt otherAt placed withSession cellAt withCell begun beginRefusal beginOf readRefusal valueRead markedRead readAfter readOf writeRefusal stagedCell writeAfter writeOf missingAt lockMissing overtakenAt staleB standsAt asStand commitRefusal lineFor auditOf commitLines markedBy overtakenBy overtakenSession committedCore committed refusedCommit commitOf blank told ran monthsHeld sameWhole sameMeasured sameNumbers sameFlag sameAlarms sameCounters ranTo holds allHold factoryDevice withVm table
 every-row-holds = refl

@@ -1,2 +1,3 @@
 -- The cases by hand.
+pub mod Runs
 pub mod Cases

@@ -1,4 +1,5 @@
 -- Laws of one measuring cycle.
 pub mod Changes
 pub mod Join
+pub mod Laws
 pub mod Types

@@ -48,11 +48,11 @@ pub sound-cell : (live : Bool) (k : ℕ) (c : Cell) → SoundCell live k c → c
 unfolding cellB
 sound-cell live k c p = and-both (and-both (p .fit) (p .seen)) (p .owned)
 
-read-sound : (live : Bool) (k : ℕ) (c : Cell) → live ≡ true → SoundCell live k c → SoundCell live k (markedRead c)
+pub read-sound : (live : Bool) (k : ℕ) (c : Cell) → live ≡ true → SoundCell live k c → SoundCell live k (markedRead c)
 unfolding markedRead
 read-sound live k c e p = record { fit = p .fit; seen = or-true (not (c .overtaken)); owned = rw e (or-true (not (c .staged || true))) }
 
-staged-sound : (live : Bool) (k : ℕ) (c : Cell) (v : Value) → live ≡ true → fitsB k v ≡ true → SoundCell live k c → SoundCell live k (stagedCell c v)
+pub staged-sound : (live : Bool) (k : ℕ) (c : Cell) (v : Value) → live ≡ true → fitsB k v ≡ true → SoundCell live k c → SoundCell live k (stagedCell c v)
 unfolding stagedCell
 staged-sound live k c v e f p = record { fit = f; seen = p .seen; owned = e }
 
@@ -86,13 +86,13 @@ put-cell live cells i c p k q (is-true t) (is-true l) =
 put-cell live cells i c p k q (is-true t) (is-false o) = rw (set-out cells i c (ltb-false i (length cells) o)) q
 put-cell live cells i c p k q (is-false f) l = rw (getD-set-other cells i k c blankCell (eqb-false k i f)) q
 
-with-cell-sound : (x : Session) (setting : ℕ) (c : Cell) → SoundCell (x .live) (setting - 1) c → sessionB x ≡ true → sessionB (withCell x setting c) ≡ true
+pub with-cell-sound : (x : Session) (setting : ℕ) (c : Cell) → SoundCell (x .live) (setting - 1) c → sessionB x ≡ true → sessionB (withCell x setting c) ≡ true
 unfolding withCell
 with-cell-sound x setting c p e =
     each-session (withCell x setting c)
     (λ k l. put-cell (x .live) (x .cells) (setting - 1) c p k (session-each x e k l) (either-of (eqb k (setting - 1))) (either-of (ltb (setting - 1) (length (x .cells)))))
 
-overtaken-sound : (mine theirs : Session) → sessionB theirs ≡ true → sessionB (overtakenSession mine theirs) ≡ true
+pub overtaken-sound : (mine theirs : Session) → sessionB theirs ≡ true → sessionB (overtakenSession mine theirs) ≡ true
 unfolding overtakenSession
 overtaken-sound mine theirs e =
     each-session (overtakenSession mine theirs)
@@ -255,7 +255,7 @@ staged-fit : (b : Bool) (x : Bool) → (not b || x) ≡ true → b ≡ true → 
 staged-fit true x e t = e
 staged-fit false x e t = absurd (false≢true t)
 
-core-stays : (s : State) (door n lines : ℕ) → AcceptedCommit s door n → SoundCore (committedCore (s .core) (sessionAt s door .cells) lines)
+pub core-stays : (s : State) (door n lines : ℕ) → AcceptedCommit s door n → SoundCore (committedCore (s .core) (sessionAt s door .cells) lines)
 unfolding committedCore
 core-stays s door n lines a =
     let p : SoundCore (s .core) = whole-sound s (a .step .whole) .core in

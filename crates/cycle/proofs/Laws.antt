@@ -1,0 +1,272 @@
+-- Laws of one measuring cycle, over the definitions: a whole state stays whole, a refusal changes nothing, each present alarm is latched,
+-- the main counters stand still in a cycle with an alarm, no amount of a whole device is ever too large, and the stores keep their lengths.
+-- Assumes nothing.
+use mathlib.Core.Path.{_≡_, refl, sym, ap, _∙_}
+use mathlib.Core.Logic.{_≢_}
+use mathlib.Core.Bool.{Bool, true, false, not, cond, _&&_, _||_}
+use mathlib.Core.List.{List, _++_, reverse}
+use Prim.Native.Nat.{ℕ, _*_, _≤_}
+use native.Mathlib.Omega.{arith}
+use lib.Dec.{T, ltb, leb, eqb}
+use lib.ListN.{length, take}
+use borrow.Author.Tests.{eqb-true, eq-eqb, ne-eqb, lt-ltb, ltb-false, leb-false}
+use Rattle.ground.proofs.Flags.{and-left, and-right, Either, is-true, is-false, either-of}
+use Rattle.units.specs.declared.Amounts.{Amounts}
+use Rattle.units.specs.declared.Amounts.the-variants.{TooLarge, Counted}
+use Rattle.units.specs.Units.{litresRollover, baseRollover, litresOf, baseOf, plusLitres, plusBase, mostPulses, pulseLitres}
+use Rattle.units.proofs.Sums.{litres-in-range, base-in-range}
+use Rattle.units.proofs.Counted.{never-more}
+use Rattle.settings.specs.declared.Setting.{Setting}
+use Rattle.settings.proofs.Laws.{cp-in}
+use Rattle.factor.proofs.Laws.{mostFactor, taken-most}
+use Rattle.calendar.specs.Calendar.{endOfTime, monthOf}
+use Rattle.readings.specs.Kelvin.{kelvinOf}
+use Rattle.ring.specs.Ring.{archiveLines, logLines, ringAfter, FromFresh, advancedRing, advancedBook}
+use Rattle.ring.specs.Store.{written, heldLines}
+use Rattle.ring.proofs.Whole.{ring-from, ring-stays, book-from, book-stays, log-common}
+use Rattle.ring.proofs.Fresh.{book-ring}
+use Rattle.ring.proofs.Stores.{written-length, whole-written}
+use Rattle.books.specs.declared.ArchiveLine.{ArchiveLine}
+use Rattle.books.specs.declared.LogLine.{LogLine}
+use Rattle.books.specs.Books.{noArchive, noLog}
+use Rattle.notes.specs.Notes.{numbered, logged}
+use Rattle.notes.proofs.Laws.{numbered-length}
+use Rattle.state.specs.declared.Counters.{Counters}
+use Rattle.state.specs.declared.Alarms.{Alarms}
+use Rattle.state.specs.declared.Core.{Core}
+use Rattle.state.specs.declared.State.{State}
+use Rattle.state.specs.State.{countersB, latchedB, wholeB}
+use Rattle.state.proofs.Card.{not-false}
+use Rattle.state.proofs.Sound.{Sound, SoundCore, whole-sound, sound-whole}
+use Rattle.cycle.specs.declared.Brought.{Brought}
+use Rattle.cycle.specs.Cycle.{naturalAt, pressureFor, temperatureFor, kFor, alarmsFor, factorFor, amountsFor, isTooLarge, anyAlarm, counted, latchesAfter, changes, monthLines, cycleRefusal, cycledCore, Outcome, cycled, cycleOf}
+use Rattle.cycle.proofs.Join.{Accepted, accepted}
+
+-- ---- done or refused
+
+abbrev pub refusedCycle : ℕ → State → List ArchiveLine → List LogLine → Outcome
+refusedCycle number s archive log = record { answer = record { number = number; state = s }; archive = archive; log = log }
+
+module _ (s : State) (r : Brought) (archive : List ArchiveLine) (log : List LogLine) where
+  number-by : (n : ℕ) (done : Bool) → eqb n 0 ≡ done → cond {A = Outcome} done (cycled s r archive log) (refusedCycle n s archive log) .answer .number ≡ n
+  unfolding cycled
+  number-by n true e = sym (eqb-true n 0 e)
+  number-by n false e = refl
+
+  -- the number on the fault card
+  pub cycle-number : cycleOf s r archive log .answer .number ≡ cycleRefusal s (length archive) (length log) r
+  unfolding cycleOf
+  cycle-number = number-by (cycleRefusal s (length archive) (length log) r) (eqb (cycleRefusal s (length archive) (length log) r) 0) refl
+
+  -- where no refusal applies
+  pub cycle-done : cycleRefusal s (length archive) (length log) r ≡ 0 → cycleOf s r archive log ≡ cycled s r archive log
+  unfolding cycleOf
+  cycle-done h = rw (eq-eqb (cycleRefusal s (length archive) (length log) r) 0 h)
+
+  -- a refusal gives its number, and leaves the state and both stores as they were
+  pub cycle-refused : cycleRefusal s (length archive) (length log) r ≢ 0 →
+      cycleOf s r archive log ≡ refusedCycle (cycleRefusal s (length archive) (length log) r) s archive log
+  unfolding cycleOf
+  cycle-refused h = rw (ne-eqb (cycleRefusal s (length archive) (length log) r) 0 h)
+
+  -- the stores keep their lengths
+  lengths-by : (n : ℕ) (done : Bool) → (length (cond {A = Outcome} done (cycled s r archive log) (refusedCycle n s archive log) .archive) ≡ length archive)
+      × (length (cond {A = Outcome} done (cycled s r archive log) (refusedCycle n s archive log) .log) ≡ length log)
+  unfolding cycled
+  lengths-by n true = (written-length archiveLines (s .core .archive) archive _, written-length logLines (s .core .log .ring) log _)
+  lengths-by n false = (refl, refl)
+
+  pub cycle-lengths : (length (cycleOf s r archive log .archive) ≡ length archive) × (length (cycleOf s r archive log .log) ≡ length log)
+  unfolding cycleOf
+  cycle-lengths = lengths-by (cycleRefusal s (length archive) (length log) r) (eqb (cycleRefusal s (length archive) (length log) r) 0)
+
+-- ---- alarms and latches
+
+-- of one alarm
+latch-flag : (found latch : Bool) → (not found || (found || latch)) ≡ true
+latch-flag true latch = refl
+latch-flag false latch = refl
+
+pub latches-hold : (latch found : Alarms) → latchedB found (latchesAfter latch found) ≡ true
+unfolding latchedB latchesAfter
+latches-hold latch found = rw (latch-flag (found .p) (latch .p), latch-flag (found .t) (latch .t), latch-flag (found .k) (latch .k))
+
+-- each present alarm is latched
+pub present-latched : (c : Core) (r : Brought) → latchedB (cycledCore c r .alarms) (cycledCore c r .latches) ≡ true
+unfolding cycledCore
+present-latched c r = latches-hold (c .latches) (alarmsFor (c .settings) r)
+
+-- ---- counters
+
+-- the whole of both amounts to one side: the other side stands still
+main-stands : (c : Counters) (amounts : Amounts) → (counted c true amounts .vm ≡ c .vm) × (counted c true amounts .vb ≡ c .vb)
+unfolding counted
+main-stands c TooLarge = (refl, refl)
+main-stands c (Counted v b) = (refl, refl)
+
+disturbed-stands : (c : Counters) (amounts : Amounts) → (counted c false amounts .vmd ≡ c .vmd) × (counted c false amounts .vbd ≡ c .vbd)
+unfolding counted
+disturbed-stands c TooLarge = (refl, refl)
+disturbed-stands c (Counted v b) = (refl, refl)
+
+module _ (c : Core) (r : Brought) where
+  -- in a cycle with an alarm the main counters stand still, and in one without the disturbed ones do
+  pub main-still : anyAlarm (alarmsFor (c .settings) r) ≡ true →
+      (cycledCore c r .counters .vm ≡ c .counters .vm) × (cycledCore c r .counters .vb ≡ c .counters .vb)
+  unfolding cycledCore
+  main-still h = rw h (main-stands (c .counters) (amountsFor (c .settings) r))
+
+  pub disturbed-still : anyAlarm (alarmsFor (c .settings) r) ≡ false →
+      (cycledCore c r .counters .vmd ≡ c .counters .vmd) × (cycledCore c r .counters .vbd ≡ c .counters .vbd)
+  unfolding cycledCore
+  disturbed-still h = rw h (disturbed-stands (c .counters) (amountsFor (c .settings) r))
+
+record InRange (c : Counters) : Type 0 where
+  vm : ltb (c .vm .0) litresRollover ≡ true
+  vmd : ltb (c .vmd .0) litresRollover ≡ true
+  vb : ltb (c .vb .0) baseRollover ≡ true
+  vbd : ltb (c .vbd .0) baseRollover ≡ true
+
+in-range : (c : Counters) → countersB c ≡ true → InRange c
+unfolding countersB
+in-range c e =
+    let one : Bool = ltb (c .vm .0) litresRollover in
+    let two : Bool = ltb (c .vmd .0) litresRollover in
+    let three : Bool = ltb (c .vb .0) baseRollover in
+    let four : Bool = ltb (c .vbd .0) baseRollover in
+    let e3 : (one && two && three) ≡ true = and-left (one && two && three) four e in
+    let e2 : (one && two) ≡ true = and-left (one && two) three e3 in
+    record { vm = and-left one two e2; vmd = and-right one two e2; vb = and-right (one && two) three e3; vbd = and-right (one && two && three) four e }
+
+-- counters in range stay in range
+pub counters-stay : (c : Counters) (disturbed : Bool) (amounts : Amounts) → countersB c ≡ true → countersB (counted c disturbed amounts) ≡ true
+unfolding counted countersB
+counters-stay c disturbed TooLarge e = e
+counters-stay c false (Counted v b) e =
+    let h = in-range c e in
+    rw (litres-in-range (c .vm) v, h .vmd, base-in-range (c .vb) b, h .vbd)
+counters-stay c true (Counted v b) e =
+    let h = in-range c e in
+    rw (h .vm, litres-in-range (c .vmd) v, h .vb, base-in-range (c .vbd) b)
+
+-- ---- a whole state stays whole
+
+pub cycled-whole : (s : State) (r : Brought) (archive : List ArchiveLine) (log : List LogLine) → Accepted s (length archive) (length log) (r .time) →
+    wholeB (cycled s r archive log .answer .state) ≡ true
+unfolding cycled cycledCore
+cycled-whole s r archive log a =
+    let p : Sound s = whole-sound s (a .whole) in
+    let c : SoundCore (s .core) = p .core in
+    let found : Alarms = alarmsFor (s .core .settings) r in
+    sound-whole (cycled s r archive log .answer .state) (record {
+      core = record {
+        in-time = lt-ltb (r .time) endOfTime (leb-false endOfTime (r .time) (a .in-time));
+        fit = c .fit;
+        ordered = c .ordered;
+        counted = counters-stay (s .core .counters) (anyAlarm found) (amountsFor (s .core .settings) r) (c .counted);
+        latched = latches-hold (s .core .latches) found;
+        in-month = eq-eqb (monthOf (r .time)) (monthOf (r .time)) refl;
+        archive-held = ring-stays archiveLines _ (s .core .archive) (omega arith) (c .archive-held);
+        log-held = book-stays log-common _ (s .core .log) (c .log-held);
+        audit-held = c .audit-held;
+      };
+      keypad = p .keypad;
+      port = p .port;
+    })
+
+whole-by : (s : State) (r : Brought) (archive : List ArchiveLine) (log : List LogLine) → wholeB s ≡ true →
+    Either (eqb (cycleRefusal s (length archive) (length log) r) 0) → wholeB (cycleOf s r archive log .answer .state) ≡ true
+unfolding cycleOf
+whole-by s r archive log e (is-true t) = rw t (cycled-whole s r archive log (accepted s (length archive) (length log) r (eqb-true _ 0 t)))
+whole-by s r archive log e (is-false f) = rw f e
+
+pub cycle-whole : (s : State) (r : Brought) (archive : List ArchiveLine) (log : List LogLine) → wholeB s ≡ true →
+    wholeB (cycleOf s r archive log .answer .state) ≡ true
+cycle-whole s r archive log e = whole-by s r archive log e (either-of (eqb (cycleRefusal s (length archive) (length log) r) 0))
+
+-- ---- the amounts of a whole device
+
+pub factor-at-most : (a : List Setting) (r : Brought) → factorFor a r ≤ mostFactor
+unfolding factorFor
+factor-at-most a r = taken-most (pressureFor a r .value) (naturalAt a 3) (naturalAt a 2) (kelvinOf (temperatureFor a r .value)) (kFor a r .value)
+
+module _ (s : State) (r : Brought) (w : wholeB s ≡ true) (few : r .n ≤ mostPulses) where
+  -- n times the pulse value, and that times the factor
+  pub amounts-counted : amountsFor (s .core .settings) r
+      ≡ Counted (litresOf (r .n * pulseLitres (naturalAt (s .core .settings) 1)))
+      (baseOf (r .n * pulseLitres (naturalAt (s .core .settings) 1) * factorFor (s .core .settings) r))
+  unfolding amountsFor
+  amounts-counted =
+      let a : List Setting = s .core .settings in
+      never-more (r .n) (naturalAt a 1) (factorFor a r) few (cp-in a (whole-sound s w .core .fit) .upto) (omega (arith, factor-at-most a r))
+
+  pub never-too-large : isTooLarge (amountsFor (s .core .settings) r) ≡ false
+  unfolding isTooLarge
+  never-too-large = rw amounts-counted
+
+  -- so a cycle counts them, to the main counters or to the disturbed ones
+  pub counts-main : anyAlarm (alarmsFor (s .core .settings) r) ≡ false → cycledCore (s .core) r .counters
+      ≡ record {
+        vm = plusLitres (s .core .counters .vm) (litresOf (r .n * pulseLitres (naturalAt (s .core .settings) 1)));
+        vmd = s .core .counters .vmd;
+        vb = plusBase (s .core .counters .vb) (baseOf (r .n * pulseLitres (naturalAt (s .core .settings) 1) * factorFor (s .core .settings) r));
+        vbd = s .core .counters .vbd;
+      }
+  unfolding cycledCore counted
+  counts-main h = rw (h, amounts-counted)
+
+  pub counts-disturbed : anyAlarm (alarmsFor (s .core .settings) r) ≡ true → cycledCore (s .core) r .counters
+      ≡ record {
+        vm = s .core .counters .vm;
+        vmd = plusLitres (s .core .counters .vmd) (litresOf (r .n * pulseLitres (naturalAt (s .core .settings) 1)));
+        vb = s .core .counters .vb;
+        vbd = plusBase (s .core .counters .vbd) (baseOf (r .n * pulseLitres (naturalAt (s .core .settings) 1) * factorFor (s .core .settings) r));
+      }
+  unfolding cycledCore counted
+  counts-disturbed h = rw (h, amounts-counted)
+
+-- the answer is k, so a row with another number does not apply
+record Past (k : ℕ) (b : Bool) (rest : ℕ) : Type 0 where
+  here : b ≡ false
+  later : rest ≡ k
+
+past : (k n : ℕ) (b : Bool) (rest : ℕ) → T (not (eqb n k)) → cond b n rest ≡ k → Past k b rest
+past k n true rest p e = absurd (rw (eq-eqb n k e) at p)
+past k n false rest p e = record { here = refl; later = e }
+
+-- refusal 14 is never given: 600 pulses of the largest value times the largest factor are below 10^17
+pub never-fourteen : (s : State) (archiveLength logLength : ℕ) (r : Brought) → cycleRefusal s archiveLength logLength r ≢ 14
+unfolding cycleRefusal
+never-fourteen s archiveLength logLength r e =
+    let one = past 14 1 (not (wholeB s && (eqb archiveLength archiveLines && eqb logLength logLines))) _ tt e in
+    let five = past 14 5 (ltb (r .time) (s .core .time)) _ tt (one .later) in
+    let six = past 14 6 (leb endOfTime (r .time)) _ tt (five .later) in
+    let seven = past 14 7 (ltb mostPulses (r .n)) _ tt (six .later) in
+    let w : wholeB s ≡ true = and-left (wholeB s) (eqb archiveLength archiveLines && eqb logLength logLines) (not-false _ (one .here)) in
+    let last : _≡_ {A = ℕ} (cond (isTooLarge (amountsFor (s .core .settings) r)) 14 0) 14 = seven .later in
+    let none : _≡_ {A = ℕ} 0 14 = rw (never-too-large s r w (ltb-false mostPulses (r .n) (seven .here))) at last in
+    omega arith
+
+-- ---- the stores
+
+-- the lines held after a cycle, newest first: one for every month crossed, and those that were held, as far as the archive goes
+pub archive-after : (s : State) (r : Brought) (archive : List ArchiveLine) (log : List LogLine) → wholeB s ≡ true → length archive ≡ archiveLines →
+    heldLines archiveLines noArchive (cycledCore (s .core) r .archive) (cycled s r archive log .archive)
+    ≡ take archiveLines (reverse (monthLines (s .core .counters) (s .core .month) (monthOf (r .time))) ++ heldLines archiveLines noArchive (s .core .archive) archive)
+unfolding cycled cycledCore
+archive-after s r archive log w e =
+    whole-written archiveLines noArchive (s .core .archive) archive (monthLines (s .core .counters) (s .core .month) (monthOf (r .time))) (omega arith) e
+    (ring-from archiveLines (s .core .archive) (whole-sound s w .core .archive-held))
+
+-- and of the logbook: the alarms that came or went, at the cycle's own time
+pub log-after : (s : State) (r : Brought) (archive : List ArchiveLine) (log : List LogLine) → wholeB s ≡ true → length log ≡ logLines →
+    heldLines logLines noLog (cycledCore (s .core) r .log .ring) (cycled s r archive log .log)
+    ≡ take logLines (reverse (logged (s .core .log) (r .time) (changes (s .core .alarms) (alarmsFor (s .core .settings) r))) ++ heldLines logLines noLog (s .core .log .ring) log)
+unfolding cycled cycledCore advancedBook logged
+log-after s r archive log w e =
+    let codes : List ℕ = changes (s .core .alarms) (alarmsFor (s .core .settings) r) in
+    let lines : List LogLine = numbered (s .core .log .number) (r .time) codes in
+    let held : FromFresh (ringAfter logLines) (s .core .log .ring) = book-ring logLines (s .core .log) (book-from log-common (s .core .log) (whole-sound s w .core .log-held)) in
+    ap (λ (n : ℕ). heldLines logLines noLog (advancedRing logLines n (s .core .log .ring)) (written logLines (s .core .log .ring) log lines))
+    (sym (numbered-length (s .core .log .number) (r .time) codes))
+    ∙ whole-written logLines noLog (s .core .log .ring) log lines (omega arith) e held

@@ -1,0 +1,2 @@
+-- The device and its stores in one plain value.
+pub mod Desk

@@ -1,0 +1,117 @@
+-- What is whole stays whole: the core after an accepted cycle, the state after any step, and so each state of a run from a start.
+-- Assumes nothing.
+use mathlib.Core.Path.{_≡_, refl}
+use mathlib.Core.Bool.{Bool, true, false, not, _&&_, _||_}
+use mathlib.Core.List.{List, [], _∷_}
+use Prim.Native.Nat.{ℕ}
+use native.Mathlib.Omega.{arith}
+use lib.Dec.{ltb, leb, eqb}
+use lib.ListN.{length}
+use borrow.Author.Tests.{eq-eqb, eqb-true, leb-false, lt-ltb}
+use Rattle.ground.proofs.Flags.{and-left, and-right, and-both}
+use Rattle.units.specs.declared.Amounts.{Amounts}
+use Rattle.units.specs.declared.Amounts.the-variants.{TooLarge, Counted}
+use Rattle.units.specs.Units.{litresRollover, baseRollover}
+use Rattle.units.proofs.Sums.{litres-in-range, base-in-range}
+use Rattle.calendar.specs.Calendar.{endOfTime, monthOf}
+use Rattle.ring.specs.Ring.{archiveLines}
+use Rattle.ring.proofs.Whole.{ring-stays, book-stays, log-common}
+use Rattle.state.specs.declared.Counters.{Counters}
+use Rattle.state.specs.declared.Alarms.{Alarms}
+use Rattle.state.specs.declared.Core.{Core}
+use Rattle.state.specs.declared.State.{State}
+use Rattle.state.specs.State.{countersB, latchedB, wholeB}
+use Rattle.state.proofs.Sound.{SoundCore, Sound, whole-sound, sound-whole}
+use Rattle.books.specs.declared.ArchiveLine.{ArchiveLine}
+use Rattle.books.specs.declared.LogLine.{LogLine}
+use Rattle.books.specs.declared.AuditLine.{AuditLine}
+use Rattle.cycle.specs.declared.Brought.{Brought}
+use Rattle.cycle.specs.Cycle.{monthLines, alarmsFor, amountsFor, anyAlarm, counted, latchesAfter, changes, cycleRefusal, cycledCore, cycled, cycleOf}
+use Rattle.cycle.proofs.Join.{accepted}
+use Rattle.panel.proofs.Laws.{start-whole, open-whole, shut-whole, clear-whole}
+use Rattle.doors.proofs.Stays.{begin-whole, abandon-whole, read-whole, write-whole, commit-whole}
+use Rattle.order.specs.Order.{run}
+use Rattle.runs.specs.Run.{Step, cycle, openLock, shutLock, clear, report, archiveLine, logLine, auditLine, begin, abandon, commit, read, write, World, step, corrector, started}
+
+-- ---- counters
+
+counters-flags : (a b c d : Bool) → (a && b && c && d) ≡ true → (a ≡ true) × (b ≡ true) × (c ≡ true) × (d ≡ true)
+counters-flags a b c d e =
+    let abc = and-left (a && b && c) d e in
+    let ab = and-left (a && b) c abc in
+    (and-left a b ab, and-right a b ab, and-right (a && b) c abc, and-right (a && b && c) d e)
+
+counted-in-range : (c : Counters) (disturbed : Bool) (x : Amounts) → countersB c ≡ true → countersB (counted c disturbed x) ≡ true
+unfolding countersB counted
+counted-in-range c disturbed TooLarge e = e
+counted-in-range c false (Counted v b) e =
+    let (vm, vmd, vb, vbd) = counters-flags (ltb (c .vm .0) litresRollover) (ltb (c .vmd .0) litresRollover) (ltb (c .vb .0) baseRollover) (ltb (c .vbd .0) baseRollover) e in
+    and-both (and-both (and-both (litres-in-range (c .vm) v) vmd) (base-in-range (c .vb) b)) vbd
+counted-in-range c true (Counted v b) e =
+    let (vm, vmd, vb, vbd) = counters-flags (ltb (c .vm .0) litresRollover) (ltb (c .vmd .0) litresRollover) (ltb (c .vb .0) baseRollover) (ltb (c .vbd .0) baseRollover) e in
+    and-both (and-both (and-both vm (litres-in-range (c .vmd) v)) vb) (base-in-range (c .vbd) b)
+
+-- ---- latches
+
+latch-set : (present latch : Bool) → (not present || (present || latch)) ≡ true
+latch-set true latch = refl
+latch-set false latch = refl
+
+latched-after : (latch found : Alarms) → latchedB found (latchesAfter latch found) ≡ true
+unfolding latchedB latchesAfter
+latched-after latch found = and-both (and-both (latch-set (found .p) (latch .p)) (latch-set (found .t) (latch .t))) (latch-set (found .k) (latch .k))
+
+-- ---- the core
+
+pub cycled-sound : (c : Core) (r : Brought) → ltb (r .time) endOfTime ≡ true → SoundCore c → SoundCore (cycledCore c r)
+unfolding cycledCore
+cycled-sound c r h s = record {
+  in-time = h;
+  fit = s .fit;
+  ordered = s .ordered;
+  counted = counted-in-range (c .counters) (anyAlarm (alarmsFor (c .settings) r)) (amountsFor (c .settings) r) (s .counted);
+  latched = latched-after (c .latches) (alarmsFor (c .settings) r);
+  in-month = eq-eqb (monthOf (r .time)) (monthOf (r .time)) refl;
+  archive-held = ring-stays archiveLines (length (monthLines (c .counters) (c .month) (monthOf (r .time)))) (c .archive) (omega arith) (s .archive-held);
+  log-held = book-stays log-common (length (changes (c .alarms) (alarmsFor (c .settings) r))) (c .log) (s .log-held);
+  audit-held = s .audit-held;
+}
+
+cycle-by : (s : State) (r : Brought) (archive : List ArchiveLine) (log : List LogLine) (t : Bool) → eqb (cycleRefusal s (length archive) (length log) r) 0 ≡ t
+    → wholeB s ≡ true → wholeB (cycleOf s r archive log .answer .state) ≡ true
+unfolding cycleOf cycled
+cycle-by s r archive log true z e =
+    let p : Sound s = whole-sound s e in
+    let late : leb endOfTime (r .time) ≡ false = accepted s (length archive) (length log) r (eqb-true (cycleRefusal s (length archive) (length log) r) 0 z) .in-time in
+    rw z
+    (sound-whole (record { core = cycledCore (s .core) r; keypad = s .keypad; port = s .port })
+    (record { core = cycled-sound (s .core) r (lt-ltb (r .time) endOfTime (leb-false endOfTime (r .time) late)) (p .core); keypad = p .keypad; port = p .port }))
+cycle-by s r archive log false z e = rw z e
+
+-- ---- every state of a run from a start is whole
+
+pub step-whole : (x : Step) (w : World) → wholeB (w .state) ≡ true → wholeB ((step x w) .0 .state) ≡ true
+step-whole (cycle r) w e =
+    cycle-by (w .state) r (w .archive) (w .log) (eqb (cycleRefusal (w .state) (length (w .archive)) (length (w .log)) r) 0) refl e
+step-whole (openLock lock code) w e = open-whole (w .state) lock code (w .log) e
+step-whole (shutLock lock) w e = shut-whole (w .state) lock (w .log) e
+step-whole clear w e = clear-whole (w .state) e
+step-whole report w e = e
+step-whole (archiveLine i) w e = e
+step-whole (logLine i) w e = e
+step-whole (auditLine i) w e = e
+step-whole (begin door) w e = begin-whole (w .state) door e
+step-whole (abandon door) w e = abandon-whole (w .state) door e
+step-whole (commit door) w e = commit-whole (w .state) door (w .audit) e
+step-whole (read door setting) w e = read-whole (w .state) door setting e
+step-whole (write door setting v) w e = write-whole (w .state) door setting v e
+
+run-whole : (xs : List Step) (w : World) → wholeB (w .state) ≡ true → wholeB ((run corrector xs w) .1 .state) ≡ true
+run-whole [] w e = e
+run-whole (x ∷ xs) w e = run-whole xs ((step x w) .0) (step-whole x w e)
+
+-- A START LEADS TO WHOLE STATES ONLY
+pub always-whole : (xs : List Step) (time supcode custcode : ℕ) (archive : List ArchiveLine) (log : List LogLine) (audit : List AuditLine)
+    → wholeB ((run corrector xs (started time supcode custcode archive log audit)) .1 .state) ≡ true
+always-whole xs time supcode custcode archive log audit =
+    run-whole xs (started time supcode custcode archive log audit) (start-whole time supcode custcode)

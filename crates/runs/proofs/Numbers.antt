@@ -1,0 +1,160 @@
+-- The lines' numbers and months: the logbook and the audit trail number their lines 0, 1, 2, .. modulo 65,536 in the order in which they were
+-- written, and the archive has a line for every month crossed, one after another. By the length of the run.
+-- Assumes nothing.
+use mathlib.Core.Path.{_≡_, refl, sym, ap, _∙_}
+use mathlib.Core.Bool.{Bool, true, false, cond}
+use mathlib.Core.List.{List, [], _∷_, _++_, append-nil, map}
+use Prim.Native.Nat.{ℕ, zero, suc, _+_, _%_}
+use native.Mathlib.Nat.{add-zero, zero-add, add-mod, mod-mod}
+use native.Mathlib.Omega.{arith}
+use lib.Dec.{eqb}
+use lib.ListN.{length, length-append, getD}
+use Rattle.settings.specs.declared.Setting.{Setting}
+use Rattle.settings.specs.Settings.{settingCount}
+use Rattle.ring.specs.declared.Book.{Book}
+use Rattle.ring.specs.Ring.{logLines, auditLines, numbers, lineNumber, bookAfter}
+use Rattle.state.specs.declared.Cell.{Cell}
+use Rattle.state.specs.State.{blankCell}
+use Rattle.state.specs.Card.{firstOf}
+use Rattle.notes.specs.Notes.{keep, numbered, logged}
+use Rattle.notes.proofs.Laws.{numbered-length}
+use Rattle.books.specs.declared.ArchiveLine.{ArchiveLine}
+use Rattle.books.specs.declared.LogLine.{LogLine}
+use Rattle.books.specs.declared.AuditLine.{AuditLine}
+use Rattle.cycle.specs.Cycle.{changes, alarmsFor}
+use Rattle.panel.specs.Panel.{turnCodes}
+use Rattle.doors.specs.Doors.{sessionAt, lineFor, auditOf, commitLines}
+use Rattle.runs.specs.Run.{Step, cycle, openLock, shutLock, clear, report, archiveLine, logLine, auditLine, begin, abandon, commit, read, write, World, numberOf, step, started}
+use Rattle.runs.specs.Rows.{rowsOf, refusedBy}
+use Rattle.runs.specs.Lines.{Shelf, logBy, logShelf, auditBy, auditShelf, wrote, numbersFrom}
+use Rattle.runs.proofs.Aside.{Body, bodyOf}
+use Rattle.runs.proofs.Effects.{after, number-is, world-is, refused-body}
+use Rattle.runs.proofs.Lines.{Kept, LogTells, AuditTells, logKept, auditKept, begun-tells}
+
+-- ---- numbers one after another
+
+pub map-join : {A B : Type 0} (f : A → B) (s t : List A) → map f (s ++ t) ≡ map f s ++ map f t
+map-join f [] t = refl
+map-join f (x ∷ s) t = ap (λ l. f x ∷ l) (map-join f s t)
+
+numbers-join : (n a b : ℕ) → numbersFrom n a ++ numbersFrom (n + a) b ≡ numbersFrom n (a + b)
+numbers-join n zero b = rw (add-zero, zero-add)
+numbers-join n (suc a) b =
+    let p : n + suc a ≡ n + 1 + a = omega arith in
+    let q : suc a + b ≡ suc (a + b) = omega arith in
+    rw (p, q) (ap (λ l. n % numbers ∷ l) (numbers-join (n + 1) a b))
+
+-- they go by the remainder alone
+numbers-mod : (n m k : ℕ) → n % numbers ≡ m % numbers → numbersFrom n k ≡ numbersFrom m k
+numbers-mod n m zero e = refl
+numbers-mod n m (suc k) e =
+    let s : (n + 1) % numbers ≡ (m + 1) % numbers = add-mod n 1 numbers ∙ ap (λ (j : ℕ). (j + 1 % numbers) % numbers) e ∙ sym (add-mod m 1 numbers) in
+    rw (e, numbers-mod (n + 1) (m + 1) k s)
+
+book-numbers : (size n k : ℕ) (b : Book) → b ≡ bookAfter size n → numbersFrom (b .number) k ≡ numbersFrom n k
+unfolding bookAfter
+book-numbers size n k b e = rw e (numbers-mod (n % numbers) n k (mod-mod n numbers))
+
+-- ---- of a book, over a run
+
+module _ (S : Shelf) (K : Kept S) (number : S .Line → ℕ)
+    (on : (x : Step) (w : World) (n : ℕ) → K .Tells n (bodyOf w) → map number (S .writes x w) ≡ numbersFrom n (length (S .writes x w))) where
+  record Counted (n : ℕ) (ys : List (S .Line)) (b : Body) : Type 0 where
+    tells : K .Tells (n + length ys) b
+    counts : map number ys ≡ numbersFrom n (length ys)
+
+  counted-by : (x : Step) (w : World) (n k : ℕ) (t : Bool) → K .Tells n (bodyOf w) → Counted n (cond t (S .writes x w) []) (bodyOf (cond t (after x w) (refusedBy x w k)))
+  counted-by x w n k true e = record { tells = K .tells-on x w n e; counts = on x w n e }
+  counted-by x w n k false e = record { tells = rw (add-zero, refused-body x w k) e; counts = refl }
+
+  counted-step : (x : Step) (w : World) (n : ℕ) → K .Tells n (bodyOf w) → Counted n (cond (eqb (numberOf ((step x w) .1)) 0) (S .writes x w) []) (bodyOf ((step x w) .0))
+  counted-step x w n e = let k = firstOf (rowsOf x w) in rw (number-is x w, world-is x w) (counted-by x w n k (eqb k 0) e)
+
+  run-numbers : (xs : List Step) (w : World) (n : ℕ) → K .Tells n (bodyOf w) → map number (wrote S xs w) ≡ numbersFrom n (length (wrote S xs w))
+  run-numbers [] w n e = refl
+  run-numbers (x ∷ xs) w n e =
+      let c = counted-step x w n e in
+      let one = cond (eqb (numberOf ((step x w) .1)) 0) (S .writes x w) [] in
+      let rest = wrote S xs ((step x w) .0) in
+      map-join number one rest
+      ∙ rw (c .counts, run-numbers xs ((step x w) .0) (n + length one) (c .tells), length-append one rest) (numbers-join n (length one) (length rest))
+
+-- ---- the logbook
+
+line-numbers : (n time : ℕ) (cs : List ℕ) → map (λ (l : LogLine). l .number) (numbered n time cs) ≡ numbersFrom n (length cs)
+unfolding numbered
+line-numbers n time [] = refl
+line-numbers n time (c ∷ cs) = ap (λ l. n % numbers ∷ l) (line-numbers (n + 1) time cs)
+
+logged-numbers : (w : World) (n time : ℕ) (cs : List ℕ) → LogTells n (bodyOf w)
+    → map (λ (l : LogLine). l .number) (logged (w .state .core .log) time cs) ≡ numbersFrom n (length (logged (w .state .core .log) time cs))
+unfolding logged
+logged-numbers w n time cs e =
+    line-numbers (w .state .core .log .number) time cs
+    ∙ book-numbers logLines n (length cs) (w .state .core .log) e
+    ∙ ap (numbersFrom n) (sym (numbered-length (w .state .core .log .number) time cs))
+
+log-numbers-on : (x : Step) (w : World) (n : ℕ) → LogTells n (bodyOf w) → map (λ (l : LogLine). l .number) (logBy x w) ≡ numbersFrom n (length (logBy x w))
+log-numbers-on (cycle r) w n e = logged-numbers w n (r .time) (changes (w .state .core .alarms) (alarmsFor (w .state .core .settings) r)) e
+log-numbers-on (openLock lock code) w n e = logged-numbers w n (w .state .core .time) (turnCodes (w .state .core .locks) lock true) e
+log-numbers-on (shutLock lock) w n e = logged-numbers w n (w .state .core .time) (turnCodes (w .state .core .locks) lock false) e
+log-numbers-on clear w n e = refl
+log-numbers-on report w n e = refl
+log-numbers-on (archiveLine i) w n e = refl
+log-numbers-on (logLine i) w n e = refl
+log-numbers-on (auditLine i) w n e = refl
+log-numbers-on (begin door) w n e = refl
+log-numbers-on (abandon door) w n e = refl
+log-numbers-on (commit door) w n e = refl
+log-numbers-on (read door setting) w n e = refl
+log-numbers-on (write door setting v) w n e = refl
+
+-- ---- the audit trail
+
+module _ (b : Book) (time door : ℕ) (a : List Setting) (cells : List Cell) where
+  one-more-by : (k : ℕ) (t : Bool) (x : AuditLine) → x .number ≡ (b .number + length (auditOf b time door a cells k)) % numbers
+      → map (λ (l : AuditLine). l .number) (auditOf b time door a cells k) ≡ numbersFrom (b .number) (length (auditOf b time door a cells k))
+      → map (λ (l : AuditLine). l .number) (auditOf b time door a cells k ++ keep t x)
+      ≡ numbersFrom (b .number) (length (auditOf b time door a cells k ++ keep t x))
+  one-more-by k true x e h =
+      let old = auditOf b time door a cells k in
+      map-join (λ (l : AuditLine). l .number) old (x ∷ [])
+      ∙ rw (length-append old (x ∷ []), h, e) (numbers-join (b .number) (length old) 1)
+  one-more-by k false x e h = rw (append-nil (auditOf b time door a cells k)) h
+
+  audit-numbers-of : (k : ℕ) → map (λ (l : AuditLine). l .number) (auditOf b time door a cells k) ≡ numbersFrom (b .number) (length (auditOf b time door a cells k))
+  unfolding auditOf lineFor lineNumber
+  audit-numbers-of zero = refl
+  audit-numbers-of (suc k) = one-more-by k (getD cells k blankCell .staged) _ refl (audit-numbers-of k)
+
+audit-numbers-on : (x : Step) (w : World) (n : ℕ) → AuditTells n (bodyOf w) → map (λ (l : AuditLine). l .number) (auditBy x w) ≡ numbersFrom n (length (auditBy x w))
+unfolding commitLines
+audit-numbers-on (cycle r) w n e = refl
+audit-numbers-on (openLock lock code) w n e = refl
+audit-numbers-on (shutLock lock) w n e = refl
+audit-numbers-on clear w n e = refl
+audit-numbers-on report w n e = refl
+audit-numbers-on (archiveLine i) w n e = refl
+audit-numbers-on (logLine i) w n e = refl
+audit-numbers-on (auditLine i) w n e = refl
+audit-numbers-on (begin door) w n e = refl
+audit-numbers-on (abandon door) w n e = refl
+audit-numbers-on (commit door) w n e =
+    audit-numbers-of (w .state .core .audit) (w .state .core .time) door (w .state .core .settings) (sessionAt (w .state) door .cells) settingCount
+    ∙ book-numbers auditLines n (length (auditBy (commit door) w)) (w .state .core .audit) e
+audit-numbers-on (read door setting) w n e = refl
+audit-numbers-on (write door setting v) w n e = refl
+
+-- ---- from a start
+
+module _ (time supcode custcode : ℕ) (archive : List ArchiveLine) (log : List LogLine) (audit : List AuditLine) where
+  abbrev begun : World
+  begun = started time supcode custcode archive log audit
+
+  -- THE LOGBOOK NUMBERS ITS LINES 0, 1, 2, .. in the order in which they were written
+  pub log-numbered : (xs : List Step) → map (λ (l : LogLine). l .number) (wrote logShelf xs begun) ≡ numbersFrom 0 (length (wrote logShelf xs begun))
+  log-numbered xs = run-numbers logShelf logKept (λ (l : LogLine). l .number) log-numbers-on xs begun 0 (begun-tells time supcode custcode archive log audit .1)
+
+  -- AND SO DOES THE AUDIT TRAIL
+  pub audit-numbered : (xs : List Step) → map (λ (l : AuditLine). l .number) (wrote auditShelf xs begun) ≡ numbersFrom 0 (length (wrote auditShelf xs begun))
+  audit-numbered xs = run-numbers auditShelf auditKept (λ (l : AuditLine). l .number) audit-numbers-on xs begun 0 (begun-tells time supcode custcode archive log audit .2)

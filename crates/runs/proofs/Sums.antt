@@ -1,0 +1,136 @@
+-- The sums: after any run from a start, each counter shows, under its rollover, the sum of what the accepted cycles put on it. By the length
+-- of the run; a step that is no cycle leaves the counters.
+-- Assumes nothing.
+use mathlib.Core.Path.{_≡_, refl, sym, ap, _∙_}
+use mathlib.Core.Bool.{Bool, true, false, cond, _&&_, true≢false}
+use mathlib.Core.List.{List, [], _∷_}
+use Prim.Native.Nat.{ℕ, _+_, _%_}
+use native.Mathlib.Nat.{add-assoc, add-zero, zero-add, mod-add-mod}
+use mathlib.Core.Logic.{_⊎_, inl, inr}
+use lib.Dec.{ltb, leb, eqb}
+use borrow.Author.Tests.{eqb-true}
+use Rattle.order.specs.Order.{run}
+use Rattle.units.specs.declared.Amounts.the-variants.{Counted}
+use Rattle.units.specs.Units.{litresRollover, baseRollover, litresOf, baseOf, litresShown, baseShown, plusLitres, plusBase, mostPulses, mostCode, convertedOf, amountsOf}
+use Rattle.settings.specs.declared.Setting.{Setting}
+use Rattle.state.specs.declared.Counters.{Counters}
+use Rattle.state.specs.State.{nothingCounted, fresh, freshCore}
+use Rattle.state.specs.Card.{firstOf}
+use Rattle.cycle.specs.declared.Brought.{Brought}
+use Rattle.cycle.specs.Cycle.{naturalAt, amountsFor, isTooLarge, counted, anyAlarm, alarmsFor, cycledCore, cycled}
+use Rattle.panel.specs.Panel.{turnedCore, turned, cleared, startOf, startRefusal}
+use Rattle.doors.specs.Doors.{placed, withSession, readAfter, writeAfter, committedCore, committed}
+use Rattle.books.specs.declared.ArchiveLine.{ArchiveLine}
+use Rattle.books.specs.declared.LogLine.{LogLine}
+use Rattle.books.specs.declared.AuditLine.{AuditLine}
+use Rattle.runs.specs.Run.{Step, cycle, openLock, shutLock, clear, report, archiveLine, logLine, auditLine, begin, abandon, commit, read, write, World, step, corrector, started}
+use Rattle.runs.specs.Sums.{Counter, Vm, VmD, Vb, VbD, litresBy, baseBy, putBy, amountOf, putsOn, sumOn, shownBy, shows, rollover}
+use Rattle.runs.specs.Rows.{rowsOf}
+use Rattle.runs.proofs.Aside.{Body, bodyOf}
+use Rattle.runs.proofs.Effects.{after, number-is, world-is, leaves}
+use Rattle.runs.proofs.Exactly.{silent}
+
+abbrev countersIn : Body → Counters
+countersIn b = b .core .counters
+
+-- ---- the amounts of an accepted cycle
+
+amounts-by : (a : List Setting) (r : Brought) (p q : Bool) → (leb (r .n) mostPulses && leb (naturalAt a 1) mostCode) ≡ p → ltb (baseBy a r) baseRollover ≡ q
+    → isTooLarge (amountsFor a r) ≡ false → amountsFor a r ≡ Counted (litresOf (litresBy a r)) (baseOf (baseBy a r))
+unfolding amountsFor amountsOf convertedOf isTooLarge litresBy baseBy
+amounts-by a r true true e f h = rw (e, f)
+amounts-by a r true false e f h = absurd (true≢false (rw (e, f) at h))
+amounts-by a r false q e f h = absurd (true≢false (rw e at h))
+
+amounts-are : (a : List Setting) (r : Brought) → isTooLarge (amountsFor a r) ≡ false → amountsFor a r ≡ Counted (litresOf (litresBy a r)) (baseOf (baseBy a r))
+amounts-are a r h = amounts-by a r (leb (r .n) mostPulses && leb (naturalAt a 1) mostCode) (ltb (baseBy a r) baseRollover) refl refl h
+
+-- ---- one cycle
+
+-- a counter that shows the sum s, and then a
+more : (m s v a : ℕ) → v ≡ s % m → (v + a) % m ≡ (s + a) % m
+more m s v a e = rw e (mod-add-mod s m a)
+
+same : (m s v : ℕ) → v ≡ s % m → v ≡ (s + 0) % m
+same m s v e = rw add-zero e
+
+counted-by : (c : Counter) (k : Counters) (s l b : ℕ) (disturbed : Bool) → shownBy c k ≡ s % rollover c
+    → shownBy c (counted k disturbed (Counted (litresOf l) (baseOf b))) ≡ (s + putBy c disturbed l b) % rollover c
+unfolding counted plusLitres litresShown plusBase baseShown
+counted-by Vm k s l b false e = more litresRollover s (k .vm .0) l e
+counted-by Vm k s l b true e = same litresRollover s (k .vm .0) e
+counted-by VmD k s l b false e = same litresRollover s (k .vmd .0) e
+counted-by VmD k s l b true e = more litresRollover s (k .vmd .0) l e
+counted-by Vb k s l b false e = more baseRollover s (k .vb .0) b e
+counted-by Vb k s l b true e = same baseRollover s (k .vb .0) e
+counted-by VbD k s l b false e = same baseRollover s (k .vbd .0) e
+counted-by VbD k s l b true e = more baseRollover s (k .vbd .0) b e
+
+cycle-adds-by : (c : Counter) (r : Brought) (w : World) (s : ℕ) → shows c w ≡ s % rollover c → (t : Bool) → firstOf (rowsOf (cycle r) w) ≡ 0 ⊎ (t ≡ false)
+    → shows c (cond t (after (cycle r) w) w) ≡ (s + cond t (amountOf c (w .state .core .settings) r) 0) % rollover c
+unfolding cycled cycledCore
+cycle-adds-by c r w s e true (inl z) =
+    let a : List Setting = w .state .core .settings in
+    rw (amounts-are a r (silent (rowsOf (cycle r) w) refl z 14))
+    (counted-by c (w .state .core .counters) s (litresBy a r) (baseBy a r) (anyAlarm (alarmsFor a r)) e)
+cycle-adds-by c r w s e true (inr z) = absurd (true≢false z)
+cycle-adds-by c r w s e false z = same (rollover c) s (shows c w) e
+
+which : (n : ℕ) (t : Bool) → eqb n 0 ≡ t → (n ≡ 0) ⊎ (t ≡ false)
+which n true e = inl (eqb-true n 0 e)
+which n false e = inr refl
+
+-- ---- one step
+
+-- a step that is no cycle leaves the counters
+kept : (c : Counter) (x : Step) (w : World) (s : ℕ) → shows c w ≡ s % rollover c → countersIn (bodyOf (after x w)) ≡ countersIn (bodyOf w)
+    → shows c ((step x w) .0) ≡ (s + 0) % rollover c
+kept c x w s e h = ap (shownBy c) (leaves countersIn x w h) ∙ same (rollover c) s (shows c w) e
+
+step-adds : (c : Counter) (x : Step) (w : World) (s : ℕ) → shows c w ≡ s % rollover c → shows c ((step x w) .0) ≡ (s + putsOn c x w) % rollover c
+unfolding turned turnedCore cleared withSession placed readAfter writeAfter committed committedCore
+step-adds c (cycle r) w s e =
+    let k = firstOf (rowsOf (cycle r) w) in
+    ap (shows c) (world-is (cycle r) w)
+    ∙ cycle-adds-by c r w s e (eqb k 0) (which k (eqb k 0) refl)
+    ∙ ap (λ (j : ℕ). (s + cond (eqb j 0) (amountOf c (w .state .core .settings) r) 0) % rollover c) (sym (number-is (cycle r) w))
+step-adds c (openLock lock code) w s e = kept c (openLock lock code) w s e refl
+step-adds c (shutLock lock) w s e = kept c (shutLock lock) w s e refl
+step-adds c clear w s e = kept c clear w s e refl
+step-adds c report w s e = kept c report w s e refl
+step-adds c (archiveLine i) w s e = kept c (archiveLine i) w s e refl
+step-adds c (logLine i) w s e = kept c (logLine i) w s e refl
+step-adds c (auditLine i) w s e = kept c (auditLine i) w s e refl
+step-adds c (begin door) w s e = kept c (begin door) w s e refl
+step-adds c (abandon door) w s e = kept c (abandon door) w s e refl
+step-adds c (commit door) w s e = kept c (commit door) w s e refl
+step-adds c (read door setting) w s e = kept c (read door setting) w s e refl
+step-adds c (write door setting v) w s e = kept c (write door setting v) w s e refl
+
+-- ---- the run
+
+run-adds : (c : Counter) (xs : List Step) (w : World) (s : ℕ) → shows c w ≡ s % rollover c → shows c ((run corrector xs w) .1) ≡ (s + sumOn c xs w) % rollover c
+run-adds c [] w s e = same (rollover c) s (shows c w) e
+run-adds c (x ∷ xs) w s e =
+    run-adds c xs ((step x w) .0) (s + putsOn c x w) (step-adds c x w s e)
+    ∙ ap (λ (k : ℕ). k % rollover c) (add-assoc s (putsOn c x w) (sumOn c xs ((step x w) .0)))
+
+fresh-shows : (c : Counter) (t : Bool) (time supcode custcode : ℕ) → shownBy c (cond t (fresh time supcode custcode) (fresh 0 0 0) .core .counters) ≡ 0 % rollover c
+unfolding fresh freshCore nothingCounted
+fresh-shows Vm true time supcode custcode = refl
+fresh-shows Vm false time supcode custcode = refl
+fresh-shows VmD true time supcode custcode = refl
+fresh-shows VmD false time supcode custcode = refl
+fresh-shows Vb true time supcode custcode = refl
+fresh-shows Vb false time supcode custcode = refl
+fresh-shows VbD true time supcode custcode = refl
+fresh-shows VbD false time supcode custcode = refl
+
+-- THE SUMS
+pub sums : (c : Counter) (xs : List Step) (time supcode custcode : ℕ) (archive : List ArchiveLine) (log : List LogLine) (audit : List AuditLine)
+    → shows c ((run corrector xs (started time supcode custcode archive log audit)) .1)
+    ≡ sumOn c xs (started time supcode custcode archive log audit) % rollover c
+unfolding startOf
+sums c xs time supcode custcode archive log audit =
+    let w = started time supcode custcode archive log audit in
+    run-adds c xs w 0 (fresh-shows c (eqb (startRefusal time) 0) time supcode custcode) ∙ ap (λ (k : ℕ). k % rollover c) (zero-add (sumOn c xs w))

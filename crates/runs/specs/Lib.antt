@@ -1,0 +1,6 @@
+-- Runs of the corrector, what they put on the counters and into the stores, and what the fault card says exactly.
+pub mod Run
+pub mod Exactly
+pub mod Rows
+pub mod Sums
+pub mod Lines
