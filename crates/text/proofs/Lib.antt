@@ -1,0 +1,6 @@
+-- Laws that the proofs of this crate cite.
+pub mod Below
+pub mod Bytes
+pub mod Digits
+pub mod Floats
+pub mod Puts

@@ -1,0 +1,55 @@
+-- `text::commands::write_by` meets its contract.
+-- Assumes nothing.
+use Rattle.text.specs.Commands.{writeBy}
+use borrow.Author.Needs.{needs}
+use Rattle.text.proofs.commands.write_by.Statement.{statement}
+use Rattle.text.proofs.commands.write_by.Tie as tie
+
+enum-known-door : tie.Need-enum-known-door
+enum-known-door c = search needs
+
+enum-told : tie.Need-enum-told
+enum-told c = search needs
+
+returns : tie.Need-returns
+unfolding writeBy
+returns c = simp (c .enum-told .given .1)
+
+enum-known-setting : tie.Need-enum-known-setting
+enum-known-setting c = search needs
+
+enum-told-2 : tie.Need-enum-told-2
+enum-told-2 c = search needs
+
+returns-2 : tie.Need-returns-2
+unfolding writeBy
+returns-2 c = simp (c .enum-told2 .given .1, c .before .before .before .door .given .1)
+
+enum-known-given : tie.Need-enum-known-given
+enum-known-given c = search needs
+
+enum-told-3 : tie.Need-enum-told-3
+enum-told-3 c = search needs
+
+returns-3 : tie.Need-returns-3
+unfolding writeBy
+returns-3 c = simp (c .enum-told3 .given .1, c .before .before .before .setting .given .1, c .before .before .before .before .before .before .door .given .1)
+
+returns-4 : tie.Need-returns-4
+unfolding writeBy
+returns-4 c = simp (c .before .given .given .1, c .before .before .before .before .setting .given .1, c .before .before .before .before .before .before .before .door .given .1)
+
+pub write-by-spec : {M : Type 1} → statement M
+write-by-spec =
+    tie.close
+    (tie.spec
+    enum-known-door
+    enum-told
+    returns
+    enum-known-setting
+    enum-told-2
+    returns-2
+    enum-known-given
+    enum-told-3
+    returns-3
+    returns-4)

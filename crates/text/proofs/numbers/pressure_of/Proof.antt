@@ -1,0 +1,29 @@
+-- `text::numbers::pressure_of` meets its contract, case by case.
+-- Assumes nothing.
+use borrow.Author.Needs.{needs}
+use Rattle.text.proofs.numbers.pressure_of.Statement.{statement}
+use Rattle.text.proofs.numbers.pressure_of.Tie as tie
+use Rattle.text.proofs.numbers.pressure_of.Reads as reads
+use Rattle.text.proofs.numbers.pressure_of.Lts as lts
+
+enum-told : tie.Need-enum-told
+enum-told c = search needs
+
+enum-told-2 : tie.Need-enum-told-2
+enum-told-2 c = search needs
+
+enum-known-r : tie.Need-enum-known-r
+enum-known-r c = search needs
+
+returns : tie.Need-returns
+returns c = search needs
+
+returns-2 : tie.Need-returns-2
+returns-2 c = simp (c .enum-told2 .given .1)
+
+returns-3 : tie.Need-returns-3
+returns-3 c = simp (c .before .r .given .1)
+
+pub pressure-of-spec : {M : Type 1} → statement M
+pressure-of-spec =
+    tie.close (tie.spec enum-told enum-told-2 enum-known-r returns returns-2 returns-3)

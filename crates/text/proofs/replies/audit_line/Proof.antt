@@ -1,0 +1,33 @@
+-- `text::replies::audit_line` meets its contract: a 0, the words and a line feed.
+-- Assumes nothing.
+use borrow.Author.Needs.{needs}
+use native.Mathlib.Omega.{arith}
+use Rattle.text.specs.Replies.{doneText}
+use Rattle.text.proofs.Puts.{two}
+use Rattle.text.proofs.replies.audit_line.Statement.{statement}
+use Rattle.text.proofs.replies.audit_line.Tie as tie
+use Rattle.text.proofs.replies.audit_line.Reads as reads
+use Rattle.text.proofs.replies.audit_line.Lts as lts
+use Rattle.text.proofs.replies.put_audit.Reads as put-audit-reads
+use Rattle.text.proofs.replies.put_byte.Reads as put-byte-reads
+
+put-byte-requires : tie.Need-put-byte-requires
+put-byte-requires c κs = search needs
+
+put-audit-requires : tie.Need-put-audit-requires
+put-audit-requires c κs = search needs
+
+put-byte-requires-2 : tie.Need-put-byte-requires-2
+put-byte-requires-2 c κs = search needs
+
+same-length : tie.Need-same-length
+same-length c = search needs
+
+returns : tie.Need-returns
+unfolding doneText
+returns c = two 256 (omega arith) (c .before .before .before .before .before .before .before .before .before .before .put-byte .ensures) (two 133 (omega arith) (c .before .before .before .before .before .before .put-audit .ensures) (c .before .before .put-byte2 .ensures))
+
+pub audit-line-spec : {M : Type 1} → statement M
+audit-line-spec =
+    tie.close
+    (tie.spec put-byte-requires put-audit-requires put-byte-requires-2 same-length returns)

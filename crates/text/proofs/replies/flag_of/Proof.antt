@@ -1,0 +1,18 @@
+-- `text::replies::flag_of` meets its contract.
+-- Assumes nothing.
+use Rattle.text.specs.Replies.{flag}
+use Rattle.text.proofs.replies.flag_of.Statement.{statement}
+use Rattle.text.proofs.replies.flag_of.Tie as tie
+use Rattle.text.proofs.replies.flag_of.Reads as reads
+use Rattle.text.proofs.replies.flag_of.Lts as lts
+
+returns : tie.Need-returns
+unfolding flag
+returns c = simp (c .if1 .taken)
+
+returns-2 : tie.Need-returns-2
+unfolding flag
+returns-2 c = simp (c .if1 .left)
+
+pub flag-of-spec : {M : Type 1} → statement M
+flag-of-spec = tie.close (tie.spec returns returns-2)

@@ -1,0 +1,24 @@
+-- `text::replies::put_counts` meets its contract: four numbers.
+-- Assumes nothing.
+use borrow.Author.Needs.{needs}
+use native.Mathlib.Omega.{arith}
+use Rattle.text.specs.Replies.{counterWords}
+use Rattle.text.proofs.Puts.{word, rows}
+use Rattle.text.proofs.replies.put_counts.Statement.{statement}
+use Rattle.text.proofs.replies.put_counts.Tie as tie
+use Rattle.text.proofs.replies.put_counts.Reads as reads
+use Rattle.text.proofs.replies.put_counts.Lts as lts
+use Rattle.text.proofs.replies.put_four.Reads as put-four-reads
+
+put-four-requires : tie.Need-put-four-requires
+put-four-requires c κs = search needs
+
+same-length : tie.Need-same-length
+same-length c = search needs
+
+returns : tie.Need-returns
+unfolding counterWords
+returns c = (c .before .before .put-four .ensures)
+
+pub put-counts-spec : {M : Type 1} → statement M
+put-counts-spec = tie.close (tie.spec put-four-requires same-length returns)

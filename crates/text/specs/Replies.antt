@@ -1,0 +1,147 @@
+-- A reply as a line: words with a space before each, and a line feed at the end.
+-- Assumes nothing.
+use Prim.Native.Nat.{ℕ, zero, suc, _+_, _/_, _%_, _≤_}
+use mathlib.Core.Path.{_≡_}
+use mathlib.Core.Bool.{Bool, true, false, cond}
+use mathlib.Core.List.{List, [], _∷_, _++_}
+use lib.Dec.{ltb}
+use lib.ListN.{length, take}
+use lib.IntN.{ℤ, pos, natAbs}
+use lib.Signed.{ltZ}
+use lib.Ieee.{Float, isNan, toBits, binary64}
+use Rattle.books.specs.declared.ArchiveLine.{ArchiveLine}
+use Rattle.books.specs.declared.LogLine.{LogLine}
+use Rattle.books.specs.declared.AuditLine.{AuditLine}
+use Rattle.state.specs.declared.Counters.{Counters}
+use Rattle.state.specs.declared.Alarms.{Alarms}
+use Rattle.text.specs.declared.replies.Moment.{Moment}
+use Rattle.text.specs.declared.replies.Reply.{Reply}
+use Rattle.text.specs.declared.replies.Reply.the-variants as reply
+use Rattle.settings.specs.declared.Value.{Value}
+use Rattle.settings.specs.declared.Value.the-variants.{Whole, Coefficient}
+
+-- ---- a text put at a place
+
+-- the text stands at the place, what was before it still does, the next place is after it, at most n bytes on, and the line has the same room
+pub record Put (n : ℕ) (old new : List ℕ) (at next : ℕ) (text : List ℕ) : Type 0 where
+  pub holds : take next new ≡ take at old ++ text
+  pub most : next ≤ at + n
+  pub room : length new ≡ length old
+
+-- ---- numbers
+
+-- `0` to `9`, then `a` to `f`
+unfoldable pub glyph : ℕ → ℕ
+glyph d = cond (ltb d 10) (48 + d) (87 + d)
+
+-- the last k digits of n in this base, the first of them first
+unfoldable pub digits : ℕ → ℕ → ℕ → List ℕ
+digits base zero n = []
+digits base (suc k) n = digits base k (n / base) ++ (glyph (n % base) ∷ [])
+
+-- one digit, and as many more as it takes, up to m more
+unfoldable pub placesUpTo : ℕ → ℕ → ℕ
+placesUpTo zero n = 1
+placesUpTo (suc m) n = cond (ltb n 10) 1 (suc (placesUpTo m (n / 10)))
+
+-- how many digits a number of 64 bits has: at most 20
+unfoldable pub places : ℕ → ℕ
+places n = placesUpTo 19 n
+
+unfoldable pub decimal : ℕ → List ℕ
+decimal n = digits 10 (places n) n
+
+-- with `-` before its digits where it is below zero
+unfoldable pub signed : ℤ → List ℕ
+signed n = cond (ltZ n (pos 0)) (45 ∷ decimal (natAbs n)) (decimal (natAbs n))
+
+-- the bits of a float; a NaN has none of its own, and is never printed: 0
+unfoldable pub bitsOf : Float → ℕ
+bitsOf f = cond (isNan f) 0 (toBits binary64 f)
+
+-- `1` or `0`
+unfoldable pub flag : Bool → ℕ
+flag on = cond on 49 48
+
+-- ---- words
+
+-- a word and the space before it
+abbrev pub spaced : List ℕ → List ℕ
+spaced w = 32 ∷ w
+
+-- words in a row, each with the space before it
+unfoldable pub joined : List (List ℕ) → List ℕ
+joined [] = []
+joined (w ∷ ws) = spaced w ++ joined ws
+
+-- `w` and a whole number, or `c` and 16 hexadecimal digits
+unfoldable pub valueWords : Value → List (List ℕ)
+valueWords (Whole n) = (119 ∷ []) ∷ signed n ∷ []
+valueWords (Coefficient f) = (99 ∷ []) ∷ digits 16 16 (bitsOf f) ∷ []
+
+unfoldable pub flagWords : Bool → Bool → Bool → List (List ℕ)
+flagWords a b c = (flag a ∷ []) ∷ (flag b ∷ []) ∷ (flag c ∷ []) ∷ []
+
+unfoldable pub numberWords : ℕ → ℕ → ℕ → ℕ → List (List ℕ)
+numberWords a b c d = decimal a ∷ decimal b ∷ decimal c ∷ decimal d ∷ []
+
+-- ---- the words of each kind of line
+
+-- MONTH Vm VmD Vb VbD
+unfoldable pub archiveWords : ArchiveLine → List (List ℕ)
+archiveWords l = decimal (l .month) ∷ numberWords (l .vm .0) (l .vmd .0) (l .vb .0) (l .vbd .0)
+
+-- NUMBER TIME CODE
+unfoldable pub logWords : LogLine → List (List ℕ)
+logWords l = decimal (l .number) ∷ decimal (l .time) ∷ decimal (l .code) ∷ []
+
+-- NUMBER TIME DOOR SETTING, the old value, the new value
+unfoldable pub auditWords : AuditLine → List (List ℕ)
+auditWords l = numberWords (l .number) (l .time) (l .door) (l .setting) ++ (valueWords (l .old) ++ valueWords (l .new))
+
+-- Vm VmD Vb VbD
+unfoldable pub counterWords : Counters → List (List ℕ)
+counterWords c = numberWords (c .vm .0) (c .vmd .0) (c .vb .0) (c .vbd .0)
+
+-- p T K, the alarms and then the latches
+unfoldable pub lampWords : Alarms → Alarms → List (List ℕ)
+lampWords alarms latches = flagWords (alarms .p) (alarms .t) (alarms .k) ++ flagWords (latches .p) (latches .t) (latches .k)
+
+-- TIME Vm VmD Vb VbD VmT VbT, the alarms, the latches, the three locks
+unfoldable pub momentWords : Moment → List (List ℕ)
+momentWords m =
+    (decimal (m .time) ∷ [])
+    ++ (counterWords (m .counters)
+    ++ ((decimal (m .vmt .0) ∷ decimal (m .vbt .0) ∷ [])
+    ++ (lampWords (m .alarms) (m .latches)
+    ++ flagWords (m .cal) (m .sup) (m .cust))))
+
+-- ---- lines, each with the line feed at its end
+
+unfoldable pub unknownText : List ℕ
+unknownText = 63 ∷ 10 ∷ []
+
+-- 0 where a command without values was done, else the refusal's number
+unfoldable pub numberText : ℕ → List ℕ
+numberText n = decimal n ++ (10 ∷ [])
+
+-- done, and values
+unfoldable pub doneText : List (List ℕ) → List ℕ
+doneText ws = 48 ∷ (joined ws ++ (10 ∷ []))
+
+unfoldable pub replyText : Reply → List ℕ
+replyText reply.Nothing = []
+replyText reply.Unknown = unknownText
+replyText (reply.Number n) = numberText n
+replyText (reply.Value v) = doneText (valueWords v)
+replyText (reply.Report m) = doneText (momentWords m)
+replyText (reply.Archive l) = doneText (archiveWords l)
+replyText (reply.Log l) = doneText (logWords l)
+replyText (reply.Audit l) = doneText (auditWords l)
+
+-- the room that any reply's line has enough of; with less from its place on, nothing is put
+abbrev pub enough : ℕ
+enough = 256
+
+unfoldable pub textFor : List ℕ → ℕ → Reply → List ℕ
+textFor out at r = cond (ltb (length out) (at + enough)) [] (replyText r)

@@ -1,0 +1,64 @@
+-- A line and its words. Words are separated by single spaces: two spaces side by side have an empty word between them, and so has a space at
+-- either end.
+-- Assumes nothing.
+use Prim.Native.Nat.{ℕ, zero, suc, _+_, _-_, _≤_}
+use mathlib.Core.Path.{_≡_}
+use mathlib.Core.Bool.{Bool, true, false, cond, _&&_}
+use mathlib.Core.List.{List, [], _∷_}
+use lib.Dec.{ltb, leb, eqb}
+use lib.ListN.{length, take, drop}
+
+abbrev pub space : ℕ
+space = 32
+
+-- how many bytes stand before the first that equals b: all, where none does
+unfoldable pub firstOf : ℕ → List ℕ → ℕ
+firstOf b [] = 0
+firstOf b (x ∷ l) = cond (eqb x b) 0 (suc (firstOf b l))
+
+-- the place after the word that begins at a place, and after its space. A line that ends before this place has no word there, and the place stays
+unfoldable pub afterWord : List ℕ → ℕ → ℕ
+afterWord line at = cond (ltb (length line) at) at (at + firstOf space (drop at line) + 1)
+
+-- where word k begins, counted from 0
+unfoldable pub place : List ℕ → ℕ → ℕ
+place line zero = 0
+place line (suc k) = afterWord line (place line k)
+
+-- the bytes from a place up to the space before the next
+unfoldable pub wordBetween : List ℕ → ℕ → ℕ → List ℕ
+wordBetween line at next = take (next - 1 - at) (drop at line)
+
+-- word k, counted from 0; no byte where there is none
+unfoldable pub word : List ℕ → ℕ → List ℕ
+word line k = wordBetween line (place line k) (place line (suc k))
+
+-- the line ends before word k
+unfoldable pub noWord : List ℕ → ℕ → Bool
+noWord line k = ltb (length line) (place line k)
+
+-- two words are the same, byte by byte
+unfoldable pub sameB : List ℕ → List ℕ → Bool
+sameB [] [] = true
+sameB [] (b ∷ bs) = false
+sameB (a ∷ as₁) [] = false
+sameB (a ∷ as₁) (b ∷ bs) = eqb a b && sameB as₁ bs
+
+-- ---- an unfinished line, kept until more of it is read
+
+-- how much of it decides its answer: one byte more than a command may have
+abbrev pub deciding : ℕ
+deciding = 201
+
+unfoldable pub keptOf : ℕ → ℕ
+keptOf n = cond (ltb n deciding) n deciding
+
+-- the bytes from one place up to another, cut so; none, where there are not so many
+unfoldable pub keptPart : List ℕ → ℕ → ℕ → List ℕ
+keptPart input from to = cond (ltb (length input) to) [] (take deciding (take (to - from) (drop from input)))
+
+-- they stand at the front
+pub record Kept (old new : List ℕ) (from to n : ℕ) : Type 0 where
+  pub front : take n new ≡ keptPart old from to
+  pub most : n ≤ length new
+  pub few : n ≤ deciding
