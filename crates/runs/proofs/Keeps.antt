@@ -9,15 +9,9 @@ use lib.Dec.{ltb, leb, eqb}
 use lib.ListN.{length}
 use borrow.Author.Tests.{eq-eqb, eqb-true, leb-false, lt-ltb}
 use Rattle.ground.proofs.Flags.{and-left, and-right, and-both}
-use Rattle.units.specs.declared.Amounts.{Amounts}
-use Rattle.units.specs.declared.Amounts.the-variants.{TooLarge, Counted}
-use Rattle.units.specs.Units.{litresRollover, baseRollover}
-use Rattle.units.proofs.Sums.{litres-in-range, base-in-range}
 use Rattle.calendar.specs.Calendar.{endOfTime, monthOf}
 use Rattle.ring.specs.Ring.{archiveLines}
 use Rattle.ring.proofs.Whole.{ring-stays, book-stays, log-common}
-use Rattle.state.specs.declared.Counters.{Counters}
-use Rattle.state.specs.declared.Alarms.{Alarms}
 use Rattle.state.specs.declared.Core.{Core}
 use Rattle.state.specs.declared.State.{State}
 use Rattle.state.specs.State.{countersB, latchedB, wholeB}
@@ -28,38 +22,11 @@ use Rattle.books.specs.declared.AuditLine.{AuditLine}
 use Rattle.cycle.specs.declared.Brought.{Brought}
 use Rattle.cycle.specs.Cycle.{monthLines, alarmsFor, amountsFor, anyAlarm, counted, latchesAfter, changes, cycleRefusal, cycledCore, cycled, cycleOf}
 use Rattle.cycle.proofs.Join.{accepted}
+use Rattle.cycle.proofs.Laws.{counters-stay, latches-hold}
 use Rattle.panel.proofs.Laws.{start-whole, open-whole, shut-whole, clear-whole}
 use Rattle.doors.proofs.Stays.{begin-whole, abandon-whole, read-whole, write-whole, commit-whole}
 use Rattle.order.specs.Order.{run}
 use Rattle.runs.specs.Run.{Step, cycle, openLock, shutLock, clear, report, archiveLine, logLine, auditLine, begin, abandon, commit, read, write, World, step, corrector, started}
-
--- ---- counters
-
-counters-flags : (a b c d : Bool) → (a && b && c && d) ≡ true → (a ≡ true) × (b ≡ true) × (c ≡ true) × (d ≡ true)
-counters-flags a b c d e =
-    let abc = and-left (a && b && c) d e in
-    let ab = and-left (a && b) c abc in
-    (and-left a b ab, and-right a b ab, and-right (a && b) c abc, and-right (a && b && c) d e)
-
-counted-in-range : (c : Counters) (disturbed : Bool) (x : Amounts) → countersB c ≡ true → countersB (counted c disturbed x) ≡ true
-unfolding countersB counted
-counted-in-range c disturbed TooLarge e = e
-counted-in-range c false (Counted v b) e =
-    let (vm, vmd, vb, vbd) = counters-flags (ltb (c .vm .0) litresRollover) (ltb (c .vmd .0) litresRollover) (ltb (c .vb .0) baseRollover) (ltb (c .vbd .0) baseRollover) e in
-    and-both (and-both (and-both (litres-in-range (c .vm) v) vmd) (base-in-range (c .vb) b)) vbd
-counted-in-range c true (Counted v b) e =
-    let (vm, vmd, vb, vbd) = counters-flags (ltb (c .vm .0) litresRollover) (ltb (c .vmd .0) litresRollover) (ltb (c .vb .0) baseRollover) (ltb (c .vbd .0) baseRollover) e in
-    and-both (and-both (and-both vm (litres-in-range (c .vmd) v)) vb) (base-in-range (c .vbd) b)
-
--- ---- latches
-
-latch-set : (present latch : Bool) → (not present || (present || latch)) ≡ true
-latch-set true latch = refl
-latch-set false latch = refl
-
-latched-after : (latch found : Alarms) → latchedB found (latchesAfter latch found) ≡ true
-unfolding latchedB latchesAfter
-latched-after latch found = and-both (and-both (latch-set (found .p) (latch .p)) (latch-set (found .t) (latch .t))) (latch-set (found .k) (latch .k))
 
 -- ---- the core
 
@@ -69,8 +36,8 @@ cycled-sound c r h s = record {
   in-time = h;
   fit = s .fit;
   ordered = s .ordered;
-  counted = counted-in-range (c .counters) (anyAlarm (alarmsFor (c .settings) r)) (amountsFor (c .settings) r) (s .counted);
-  latched = latched-after (c .latches) (alarmsFor (c .settings) r);
+  counted = counters-stay (c .counters) (anyAlarm (alarmsFor (c .settings) r)) (amountsFor (c .settings) r) (s .counted);
+  latched = latches-hold (c .latches) (alarmsFor (c .settings) r);
   in-month = eq-eqb (monthOf (r .time)) (monthOf (r .time)) refl;
   archive-held = ring-stays archiveLines (length (monthLines (c .counters) (c .month) (monthOf (r .time)))) (c .archive) (omega arith) (s .archive-held);
   log-held = book-stays log-common (length (changes (c .alarms) (alarmsFor (c .settings) r))) (c .log) (s .log-held);
