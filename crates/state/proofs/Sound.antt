@@ -7,17 +7,14 @@ use native.Mathlib.Omega.{arith}
 use lib.Dec.{ltb, eqb}
 use borrow.Author.Tests.{lt-ltb, eq-eqb}
 use Rattle.ground.specs.Below.{allBelow}
-use Rattle.ground.proofs.Flags.{and-left, and-right, and-both}
-use Rattle.settings.specs.Settings.{settingsFitB, orderedB, factorySettings}
+use Rattle.ground.proofs.Flags.{and-left, and-right}
+use Rattle.settings.specs.Settings.{settingsFitB, orderedB}
 use Rattle.settings.proofs.Laws.{factory-fits, factory-ordered}
 use Rattle.calendar.specs.Calendar.{endOfTime, monthOf}
-use Rattle.ring.specs.declared.Ring.{Ring}
-use Rattle.ring.specs.declared.Book.{Book}
 use Rattle.ring.specs.Ring.{archiveLines, logLines, auditLines, logStep, auditStep, ringAfter, bookAfter, ringB, bookB}
 use Rattle.ring.proofs.Whole.{ring-passes, book-passes, log-common, audit-common}
 use Rattle.state.specs.declared.Core.{Core}
 use Rattle.state.specs.declared.Locks.{Locks}
-use Rattle.state.specs.declared.Session.{Session}
 use Rattle.state.specs.declared.State.{State}
 use Rattle.state.specs.State.{noSession, noAlarm, nothingCounted, shutLocks, freshCore, fresh, countersB, latchedB, storesB, cellB, cellsB, sessionB, coreB, wholeB}
 

@@ -1,42 +1,31 @@
+-- `state::counters_ok` meets its contract. Its definition is unfolded at each return, and has there what the calls and the tests on the way say.
+-- Assumes nothing.
 use Rattle.state.specs.State.{countersB}
 use borrow.Author.Needs.{needs}
 use Rattle.state.proofs.counters_ok.Statement.{statement}
 use Rattle.state.proofs.counters_ok.Tie as tie
-use Rattle.state.proofs.counters_ok.Reads as reads
-use Rattle.state.proofs.counters_ok.Lts as lts
-use Rattle.ground.proofs.both.Reads as both-reads
-use Rattle.units.proofs.base_ok.Reads as base-ok-reads
-use Rattle.units.proofs.litres_ok.Reads as litres-ok-reads
 
--- src/lib.rt:201:9
 litres-ok-requires : tie.Need-litres-ok-requires
 litres-ok-requires c κs = search needs
 
--- src/lib.rt:202:9
 litres-ok-requires-2 : tie.Need-litres-ok-requires-2
 litres-ok-requires-2 c κs = search needs
 
--- src/lib.rt:203:9
 base-ok-requires : tie.Need-base-ok-requires
 base-ok-requires c κs = search needs
 
--- src/lib.rt:204:9
 base-ok-requires-2 : tie.Need-base-ok-requires-2
 base-ok-requires-2 c κs = search needs
 
--- src/lib.rt:205:9
 both-requires : tie.Need-both-requires
 both-requires c κs = search needs
 
--- src/lib.rt:206:9
 both-requires-2 : tie.Need-both-requires-2
 both-requires-2 c κs = search needs
 
--- src/lib.rt:207:5
 both-requires-3 : tie.Need-both-requires-3
 both-requires-3 c κs = search needs
 
--- src/lib.rt:198:1
 returns : tie.Need-returns
 unfolding countersB
 returns c = simp (c .both3 .ensures, c .before .both2 .ensures, c .before .before .both .ensures, c .before .before .before .base-ok2 .ensures, c .before .before .before .before .base-ok .ensures, c .before .before .before .before .before .litres-ok2 .ensures, c .before .before .before .before .before .before .litres-ok .ensures)

@@ -1,33 +1,25 @@
+-- `state::latched_ok` meets its contract. Its definition is unfolded at each return, and has there what the calls and the tests on the way say.
+-- Assumes nothing.
 use Rattle.state.specs.State.{latchedB}
 use borrow.Author.Needs.{needs}
 use Rattle.state.proofs.latched_ok.Statement.{statement}
 use Rattle.state.proofs.latched_ok.Tie as tie
-use Rattle.state.proofs.latched_ok.Reads as reads
-use Rattle.state.proofs.latched_ok.Lts as lts
-use Rattle.ground.proofs.both.Reads as both-reads
-use Rattle.state.proofs.implies.Reads as implies-reads
 
--- src/lib.rt:213:9
 implies-requires : tie.Need-implies-requires
 implies-requires c κs = search needs
 
--- src/lib.rt:214:9
 implies-requires-2 : tie.Need-implies-requires-2
 implies-requires-2 c κs = search needs
 
--- src/lib.rt:215:9
 implies-requires-3 : tie.Need-implies-requires-3
 implies-requires-3 c κs = search needs
 
--- src/lib.rt:216:9
 both-requires : tie.Need-both-requires
 both-requires c κs = search needs
 
--- src/lib.rt:217:5
 both-requires-2 : tie.Need-both-requires-2
 both-requires-2 c κs = search needs
 
--- src/lib.rt:210:1
 returns : tie.Need-returns
 unfolding latchedB
 returns c = simp (c .both2 .ensures, c .before .both .ensures, c .before .before .implies3 .ensures, c .before .before .before .implies2 .ensures, c .before .before .before .before .implies .ensures)

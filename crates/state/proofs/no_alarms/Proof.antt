@@ -1,11 +1,10 @@
+-- `state::no_alarms` meets its contract. Its definition is unfolded at each return, and has there what the calls and the tests on the way say.
+-- Assumes nothing.
 use Rattle.state.specs.State.{noAlarm}
 use mathlib.Core.Path.{refl}
 use Rattle.state.proofs.no_alarms.Statement.{statement}
 use Rattle.state.proofs.no_alarms.Tie as tie
-use Rattle.state.proofs.no_alarms.Reads as reads
-use Rattle.state.proofs.no_alarms.Lts as lts
 
--- src/lib.rt:129:1
 returns : tie.Need-returns
 unfolding noAlarm
 returns c = refl

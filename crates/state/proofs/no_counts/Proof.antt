@@ -1,11 +1,10 @@
+-- `state::no_counts` meets its contract. Its definition is unfolded at each return, and has there what the calls and the tests on the way say.
+-- Assumes nothing.
 use Rattle.state.specs.State.{nothingCounted}
 use mathlib.Core.Path.{refl}
 use Rattle.state.proofs.no_counts.Statement.{statement}
 use Rattle.state.proofs.no_counts.Tie as tie
-use Rattle.state.proofs.no_counts.Reads as reads
-use Rattle.state.proofs.no_counts.Lts as lts
 
--- src/lib.rt:118:1
 returns : tie.Need-returns
 unfolding nothingCounted
 returns c = refl

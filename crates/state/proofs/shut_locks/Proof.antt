@@ -1,11 +1,10 @@
+-- `state::shut_locks` meets its contract. Its definition is unfolded at each return, and has there what the calls and the tests on the way say.
+-- Assumes nothing.
 use Rattle.state.specs.State.{shutLocks}
 use mathlib.Core.Path.{refl}
 use Rattle.state.proofs.shut_locks.Statement.{statement}
 use Rattle.state.proofs.shut_locks.Tie as tie
-use Rattle.state.proofs.shut_locks.Reads as reads
-use Rattle.state.proofs.shut_locks.Lts as lts
 
--- src/lib.rt:139:1
 returns : tie.Need-returns
 unfolding shutLocks
 returns c = refl

@@ -1,11 +1,10 @@
+-- `state::with_core` meets its contract. Its definition is unfolded at each return, and has there what the calls and the tests on the way say.
+-- Assumes nothing.
 use Rattle.state.specs.State.{withCore}
 use mathlib.Core.Path.{refl}
 use Rattle.state.proofs.with_core.Statement.{statement}
 use Rattle.state.proofs.with_core.Tie as tie
-use Rattle.state.proofs.with_core.Reads as reads
-use Rattle.state.proofs.with_core.Lts as lts
 
--- src/lib.rt:303:1
 returns : tie.Need-returns
 unfolding withCore
 returns c = refl
