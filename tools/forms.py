@@ -49,7 +49,7 @@ def straight(name, unfold="", said=None, what="It is a straight line.", requires
     for step in w.code.steps:
         if step[0] == "return":
             break
-        if step[0] == "set" and step[2][0] == "address" and not lent and len(w.told) > 1:
+        if step[0] == "set" and step[2][0] == "address" and not lent and not w.refs and len(w.told) > 1:
             lent = True
             cut()
         done += 1

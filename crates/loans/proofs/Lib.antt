@@ -1,0 +1,2 @@
+-- The types that walks hand over.
+pub mod Types

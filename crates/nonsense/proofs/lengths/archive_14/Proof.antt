@@ -1,0 +1,60 @@
+-- `lengths::archive_14` is safe and ends: the place stays below 14.
+-- Assumes nothing.
+use Prim.Native.Nat.{_≤_, _-_}
+use native.Mathlib.Omega.{arith}
+use borrow.Author.Needs.{needs}
+use Rattle.nonsense.proofs.lengths.archive_14.Statement.{statement}
+use Rattle.nonsense.proofs.lengths.archive_14.Tie as tie
+
+abbrev Inv-loop : tie.InvT-loop
+Inv-loop a good₀ k₀ good k = k ≤ 14
+
+abbrev μ-loop : tie.MeasureT-loop
+μ-loop a good₀ k₀ good k = 14 - k
+
+loop-holds : tie.Need-loop-holds Inv-loop μ-loop
+loop-holds c = omega arith
+
+mul-x : tie.Need-mul-x Inv-loop μ-loop
+mul-x c = omega arith
+
+array-copy-out-x : tie.Need-array-copy-out-x Inv-loop μ-loop
+array-copy-out-x c = omega arith
+
+archive-line-requires : tie.Need-archive-line-requires Inv-loop μ-loop
+archive-line-requires c κs = search needs
+
+archive-same-requires : tie.Need-archive-same-requires Inv-loop μ-loop
+archive-same-requires c κs = search needs
+
+both-requires : tie.Need-both-requires Inv-loop μ-loop
+both-requires c κs = search needs
+
+add-k : tie.Need-add-k Inv-loop μ-loop
+add-k c = omega arith
+
+loop-less : tie.Need-loop-less Inv-loop μ-loop
+loop-less c = omega arith
+
+loop-again : tie.Need-loop-again Inv-loop μ-loop
+loop-again c = omega arith
+
+returns : tie.Need-returns Inv-loop μ-loop
+returns c = search needs
+
+pub archive-14-spec : {M : Type 1} → statement M
+archive-14-spec =
+    tie.close
+    (tie.spec
+    Inv-loop
+    μ-loop
+    loop-holds
+    mul-x
+    array-copy-out-x
+    archive-line-requires
+    archive-same-requires
+    both-requires
+    add-k
+    loop-less
+    loop-again
+    returns)

@@ -1,0 +1,134 @@
+// A whole state that every command accepts, from which the trials start.
+use ring::Book;
+use ring::Ring;
+use settings::Value;
+use state::Alarms;
+use state::Cell;
+use state::Core;
+use state::Counters;
+use state::Locks;
+use state::Session;
+use state::State;
+use units::BaseUnits;
+use units::Litres;
+
+pub const SUPPLIERS_CODE: u32 = 1234;
+
+pub const CUSTOMERS_CODE: u32 = 98_765;
+
+// In March 2003, the month of number 38.
+pub const TIME: u64 = 100_000_000;
+
+pub const MONTH: u64 = 38;
+
+pub fn counters(vm: u64, vmd: u64, vb: u64, vbd: u64) -> Counters {
+    Counters {
+        vm: Litres(vm),
+        vmd: Litres(vmd),
+        vb: BaseUnits(vb),
+        vbd: BaseUnits(vbd),
+    }
+}
+
+pub fn alarms(p: bool, t: bool, k: bool) -> Alarms {
+    Alarms { p, t, k }
+}
+
+pub fn locks(cal: bool, sup: bool, cust: bool) -> Locks {
+    Locks {
+        cal,
+        sup,
+        cust,
+        supcode: SUPPLIERS_CODE,
+        custcode: CUSTOMERS_CODE,
+    }
+}
+
+pub fn book(held: u64, next: u64, number: u16) -> Book {
+    Book {
+        ring: Ring { held, next },
+        number,
+    }
+}
+
+// The pressure alarm is present, that of the temperature is over and still latched. The archive and the logbook are full.
+fn core() -> Core {
+    let factory = settings::factory_settings();
+    Core {
+        time: TIME,
+        month: MONTH,
+        counters: counters(999_999_999_999, 5_000, 99_999_999_999_999_999, 700),
+        alarms: alarms(true, false, false),
+        latches: alarms(true, true, false),
+        locks: locks(true, false, false),
+        settings: factory,
+        archive: Ring { held: 15, next: 3 },
+        log: book(250, 7, 257),
+        audit: book(12, 12, 12),
+    }
+}
+
+pub fn staged(v: Value) -> Cell {
+    Cell {
+        staged: true,
+        value: v,
+        read: false,
+        overtaken: false,
+    }
+}
+
+pub fn seen(read: bool, overtaken: bool) -> Cell {
+    Cell {
+        staged: false,
+        value: Value::Whole(0),
+        read,
+        overtaken,
+    }
+}
+
+pub fn with_cell(x: Session, place: usize, c: Cell) -> Session {
+    let cells = x.cells;
+    let after = state::cell_put(cells, place, c);
+    Session {
+        live: x.live,
+        cells: after,
+    }
+}
+
+pub fn open_session() -> Session {
+    let none = state::no_session();
+    let cells = none.cells;
+    Session { live: true, cells }
+}
+
+// K.F is read, p.F staged.
+fn keypad() -> Session {
+    let x = with_cell(open_session(), 15, seen(true, false));
+    with_cell(x, 13, staged(Value::Whole(150_000)))
+}
+
+// The customer's number is read and staged.
+fn port() -> Session {
+    let c = Cell {
+        staged: true,
+        value: Value::Whole(77),
+        read: true,
+        overtaken: false,
+    };
+    with_cell(open_session(), 20, c)
+}
+
+// A session at the keypad, none at the port.
+pub fn one_session() -> State {
+    let core = core();
+    let keypad = keypad();
+    let port = state::no_session();
+    State { core, keypad, port }
+}
+
+pub fn two_sessions() -> State {
+    let core = core();
+    let keypad = keypad();
+    let port = port();
+    State { core, keypad, port }
+}

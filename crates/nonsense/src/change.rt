@@ -1,0 +1,117 @@
+// A state with one part changed.
+use crate::base;
+use ring::Book;
+use ring::Ring;
+use settings::Setting;
+use settings::Value;
+use state::Alarms;
+use state::Cell;
+use state::Counters;
+use state::Locks;
+use state::Session;
+use state::State;
+
+pub fn time(s: State, time: u64, month: u64) -> State {
+    let mut core = s.core;
+    core.time = time;
+    core.month = month;
+    state::with_core(s, core)
+}
+
+pub fn counters(s: State, c: Counters) -> State {
+    let mut core = s.core;
+    core.counters = c;
+    state::with_core(s, core)
+}
+
+pub fn alarms(s: State, present: Alarms, latched: Alarms) -> State {
+    let mut core = s.core;
+    core.alarms = present;
+    core.latches = latched;
+    state::with_core(s, core)
+}
+
+pub fn locks(s: State, locks: Locks) -> State {
+    let mut core = s.core;
+    core.locks = locks;
+    state::with_core(s, core)
+}
+
+pub fn archive(s: State, r: Ring) -> State {
+    let mut core = s.core;
+    core.archive = r;
+    state::with_core(s, core)
+}
+
+pub fn log(s: State, b: Book) -> State {
+    let mut core = s.core;
+    core.log = b;
+    state::with_core(s, core)
+}
+
+pub fn audit(s: State, b: Book) -> State {
+    let mut core = s.core;
+    core.audit = b;
+    state::with_core(s, core)
+}
+
+pub fn setting(s: State, place: usize, v: Value) -> State {
+    let mut core = s.core;
+    let before = core.settings;
+    let after = settings::setting_put(before, place, Setting { value: v });
+    core.settings = after;
+    state::with_core(s, core)
+}
+
+pub fn keypad(s: State, x: Session) -> State {
+    let core = s.core;
+    let port = s.port;
+    State {
+        core,
+        keypad: x,
+        port,
+    }
+}
+
+pub fn port(s: State, x: Session) -> State {
+    let core = s.core;
+    let keypad = s.keypad;
+    State {
+        core,
+        keypad,
+        port: x,
+    }
+}
+
+pub fn session(s: State, door: u64, x: Session) -> State {
+    let first = door == 1;
+    if first { keypad(s, x) } else { port(s, x) }
+}
+
+pub fn cell(s: State, door: u64, place: usize, c: Cell) -> State {
+    let first = door == 1;
+    if first {
+        keypad(s, base::with_cell(s.keypad, place, c))
+    } else {
+        port(s, base::with_cell(s.port, place, c))
+    }
+}
+
+// Not whole: the month is not that of the time.
+pub fn not_whole(s: State) -> State {
+    time(s, base::TIME, 39)
+}
+
+pub fn shut(s: State) -> State {
+    locks(s, base::locks(false, false, false))
+}
+
+// K.F, which door 1 has read, was put in force through the other door.
+pub fn stale(s: State) -> State {
+    cell(s, 1, 15, base::seen(true, true))
+}
+
+// pMax staged below pMin.
+pub fn crossed(s: State) -> State {
+    cell(s, 1, 7, base::staged(Value::Whole(80_000)))
+}

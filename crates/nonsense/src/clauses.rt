@@ -1,0 +1,222 @@
+// Every command on states in which one clause of "whole" is broken, but for settings and staged values (see `values`). The states that are
+// whole stand at the ends of what is allowed.
+use crate::base;
+use crate::base::alarms;
+use crate::base::book;
+use crate::base::one_session;
+use crate::base::seen;
+use crate::base::staged;
+use crate::base::two_sessions;
+use crate::change;
+use crate::commands::every;
+use crate::print::end;
+use crate::print::number;
+use crate::print::text;
+use crate::print::title;
+use ring::Ring;
+use settings::Value;
+use state::Alarms;
+
+fn standing() {
+    title(b"whole: one session");
+    every(one_session());
+    title(b"whole: two sessions");
+    every(two_sessions());
+}
+
+fn time(time: u64, month: u64) {
+    text(b"time");
+    number(time);
+    text(b" month");
+    number(month);
+    end();
+    every(change::time(one_session(), time, month));
+}
+
+// The last second that there is, and what lies beyond it; the first and the last second of a month, and the months beside it.
+fn times() {
+    time(3_155_759_999, 1_199);
+    time(3_155_760_000, 1_199);
+    time(18_446_744_073_709_551_615, 1_199);
+    time(99_792_000, 38);
+    time(99_791_999, 38);
+    time(102_470_399, 38);
+    time(102_470_400, 38);
+    time(base::TIME, 37);
+    time(base::TIME, 39);
+    time(base::TIME, 18_446_744_073_709_551_615);
+    time(3_155_759_999, 1_198);
+    time(3_155_759_999, 1_200);
+}
+
+fn counters(vm: u64, vmd: u64, vb: u64, vbd: u64) {
+    text(b"counters");
+    number(vm);
+    number(vmd);
+    number(vb);
+    number(vbd);
+    end();
+    let c = base::counters(vm, vmd, vb, vbd);
+    every(change::counters(one_session(), c));
+}
+
+fn amounts() {
+    counters(
+        999_999_999_999,
+        999_999_999_999,
+        99_999_999_999_999_999,
+        99_999_999_999_999_999,
+    );
+    counters(1_000_000_000_000, 0, 0, 0);
+    counters(0, 1_000_000_000_000, 0, 0);
+    counters(0, 0, 100_000_000_000_000_000, 0);
+    counters(0, 0, 0, 100_000_000_000_000_000);
+    counters(18_446_744_073_709_551_615, 0, 0, 0);
+    counters(0, 18_446_744_073_709_551_615, 0, 0);
+    counters(0, 0, 18_446_744_073_709_551_615, 0);
+    counters(0, 0, 0, 18_446_744_073_709_551_615);
+}
+
+fn flag(b: bool) {
+    if b {
+        text(b" yes");
+    } else {
+        text(b" no");
+    }
+}
+
+fn three(a: Alarms) {
+    flag(a.p);
+    flag(a.t);
+    flag(a.k);
+}
+
+fn latched(present: Alarms, latch: Alarms) {
+    text(b"alarms");
+    three(present);
+    text(b" latches");
+    three(latch);
+    end();
+    every(change::alarms(one_session(), present, latch));
+}
+
+fn latches() {
+    latched(alarms(true, true, true), alarms(true, true, true));
+    latched(alarms(true, false, false), alarms(false, true, true));
+    latched(alarms(false, true, false), alarms(true, false, true));
+    latched(alarms(false, false, true), alarms(true, true, false));
+}
+
+fn archive(held: u64, next: u64) {
+    text(b"archive");
+    number(held);
+    number(next);
+    end();
+    every(change::archive(one_session(), Ring { held, next }));
+}
+
+fn log(held: u64, next: u64, told: u16) {
+    text(b"logbook");
+    number(held);
+    number(next);
+    number(told as u64);
+    end();
+    every(change::log(one_session(), book(held, next, told)));
+}
+
+fn audit(held: u64, next: u64, told: u16) {
+    text(b"audit trail");
+    number(held);
+    number(next);
+    number(told as u64);
+    end();
+    every(change::audit(one_session(), book(held, next, told)));
+}
+
+fn archives() {
+    archive(0, 0);
+    archive(14, 14);
+    archive(15, 14);
+    archive(0, 1);
+    archive(14, 0);
+    archive(15, 15);
+    archive(16, 0);
+    archive(18_446_744_073_709_551_615, 0);
+}
+
+fn logbooks() {
+    log(0, 0, 0);
+    log(249, 249, 249);
+    log(250, 249, 65_535);
+    log(0, 1, 0);
+    log(249, 0, 249);
+    log(0, 0, 1);
+    log(249, 249, 250);
+    log(249, 249, 247);
+    log(250, 250, 250);
+    log(251, 0, 250);
+    log(250, 7, 256);
+    log(250, 0, 65_535);
+}
+
+fn audit_trails() {
+    audit(0, 0, 0);
+    audit(199, 199, 199);
+    audit(200, 7, 65_535);
+    audit(0, 1, 0);
+    audit(199, 0, 199);
+    audit(0, 0, 1);
+    audit(199, 199, 207);
+    audit(200, 200, 200);
+    audit(201, 0, 200);
+    audit(200, 7, 11);
+    audit(200, 7, 206);
+    audit(200, 0, 204);
+}
+
+// Marked as put in force through the other door, and not read.
+fn overtaken(door: u64, setting: u64, place: usize) {
+    text(b"overtaken and not read");
+    number(door);
+    number(setting);
+    end();
+    every(change::cell(two_sessions(), door, place, seen(false, true)));
+}
+
+// Something staged or read where there is no session.
+fn left_over(door: u64, setting: u64, place: usize) {
+    let none = state::no_session();
+    let s = change::session(two_sessions(), door, none);
+    text(b"staged with no session");
+    number(door);
+    number(setting);
+    end();
+    every(change::cell(s, door, place, staged(Value::Whole(1))));
+    text(b"read with no session");
+    number(door);
+    number(setting);
+    end();
+    every(change::cell(s, door, place, seen(true, false)));
+}
+
+fn sessions() {
+    overtaken(1, 1, 0);
+    overtaken(1, 21, 20);
+    overtaken(2, 1, 0);
+    overtaken(2, 21, 20);
+    left_over(1, 1, 0);
+    left_over(1, 21, 20);
+    left_over(2, 1, 0);
+    left_over(2, 21, 20);
+}
+
+pub fn run() {
+    standing();
+    times();
+    amounts();
+    latches();
+    archives();
+    logbooks();
+    audit_trails();
+    sessions();
+}

@@ -1,0 +1,151 @@
+// Whether two values are the same in every field. Floats are held together bit by bit; of two that are no number, only that they are none.
+use crate::print::bits;
+use ground::both;
+use settings::Value;
+use state::Alarms;
+use state::Cell;
+use state::Core;
+use state::Counters;
+use state::Locks;
+use state::Session;
+use state::State;
+
+pub fn flags(a: bool, b: bool) -> bool {
+    if a { b } else { !b }
+}
+
+fn floats(x: f64, y: f64) -> bool {
+    let first = x == x;
+    let second = y == y;
+    let kinds = flags(first, second);
+    let pattern = bits(x) == bits(y);
+    both(kinds, pattern)
+}
+
+fn whole(m: i64, v: Value) -> bool {
+    match v {
+        Value::Whole(n) => m == n,
+        Value::Coefficient(_) => false,
+    }
+}
+
+fn coefficient(x: f64, v: Value) -> bool {
+    match v {
+        Value::Whole(_) => false,
+        Value::Coefficient(y) => floats(x, y),
+    }
+}
+
+pub fn values(v: Value, w: Value) -> bool {
+    match v {
+        Value::Whole(m) => whole(m, w),
+        Value::Coefficient(x) => coefficient(x, w),
+    }
+}
+
+fn settings_all(
+    a: [settings::Setting; settings::COUNT],
+    b: [settings::Setting; settings::COUNT],
+) -> bool {
+    let mut good = true;
+    for k in 0..settings::COUNT {
+        let x = a[k];
+        let y = b[k];
+        let v = x.value;
+        let w = y.value;
+        let fine = values(v, w);
+        good = both(fine, good);
+    }
+    good
+}
+
+fn cells(x: Cell, y: Cell) -> bool {
+    let v = x.value;
+    let w = y.value;
+    let staged = flags(x.staged, y.staged);
+    let value = values(v, w);
+    let read = flags(x.read, y.read);
+    let overtaken = flags(x.overtaken, y.overtaken);
+    both(both(staged, value), both(read, overtaken))
+}
+
+fn cells_all(a: [Cell; settings::COUNT], b: [Cell; settings::COUNT]) -> bool {
+    let mut good = true;
+    for k in 0..settings::COUNT {
+        let x = a[k];
+        let y = b[k];
+        let fine = cells(x, y);
+        good = both(fine, good);
+    }
+    good
+}
+
+fn sessions(a: Session, b: Session) -> bool {
+    let x = a.cells;
+    let y = b.cells;
+    both(flags(a.live, b.live), cells_all(x, y))
+}
+
+pub fn counters(a: Counters, b: Counters) -> bool {
+    let vm = a.vm.0 == b.vm.0;
+    let vmd = a.vmd.0 == b.vmd.0;
+    let vb = a.vb.0 == b.vb.0;
+    let vbd = a.vbd.0 == b.vbd.0;
+    both(both(vm, vmd), both(vb, vbd))
+}
+
+pub fn alarms(a: Alarms, b: Alarms) -> bool {
+    both(both(flags(a.p, b.p), flags(a.t, b.t)), flags(a.k, b.k))
+}
+
+fn locks(a: Locks, b: Locks) -> bool {
+    let open = both(
+        both(flags(a.cal, b.cal), flags(a.sup, b.sup)),
+        flags(a.cust, b.cust),
+    );
+    let supcode = a.supcode == b.supcode;
+    let custcode = a.custcode == b.custcode;
+    both(open, both(supcode, custcode))
+}
+
+fn rings(a: ring::Ring, b: ring::Ring) -> bool {
+    let held = a.held == b.held;
+    let next = a.next == b.next;
+    both(held, next)
+}
+
+fn books(a: ring::Book, b: ring::Book) -> bool {
+    let number = a.number == b.number;
+    both(rings(a.ring, b.ring), number)
+}
+
+fn stores(a: Core, b: Core) -> bool {
+    let archive = rings(a.archive, b.archive);
+    let log = books(a.log, b.log);
+    let audit = books(a.audit, b.audit);
+    both(archive, both(log, audit))
+}
+
+fn cores(a: Core, b: Core) -> bool {
+    let time = a.time == b.time;
+    let month = a.month == b.month;
+    let amounts = counters(a.counters, b.counters);
+    let present = alarms(a.alarms, b.alarms);
+    let latched = alarms(a.latches, b.latches);
+    let turned = locks(a.locks, b.locks);
+    let x = a.settings;
+    let y = b.settings;
+    let set = settings_all(x, y);
+    let kept = stores(a, b);
+    let first = both(both(time, month), both(amounts, present));
+    let second = both(both(latched, turned), both(set, kept));
+    both(first, second)
+}
+
+pub fn states(a: State, b: State) -> bool {
+    let x = a.core;
+    let y = b.core;
+    let keypad = sessions(a.keypad, b.keypad);
+    let port = sessions(a.port, b.port);
+    both(cores(x, y), both(keypad, port))
+}
