@@ -1,21 +1,21 @@
 // Every command on states in which one clause of "whole" is broken, but for settings and staged values (see `values`). The states that are
 // whole stand at the ends of what is allowed.
-use crate::base;
-use crate::base::alarms;
-use crate::base::book;
-use crate::base::one_session;
-use crate::base::seen;
-use crate::base::staged;
-use crate::base::two_sessions;
-use crate::change;
-use crate::commands::every;
-use crate::print::end;
-use crate::print::number;
-use crate::print::text;
-use crate::print::title;
 use ring::Ring;
 use settings::Value;
 use state::Alarms;
+use trials::base;
+use trials::base::alarms;
+use trials::base::book;
+use trials::base::one_session;
+use trials::base::seen;
+use trials::base::staged;
+use trials::base::two_sessions;
+use trials::change;
+use trials::commands::every;
+use trials::print::end;
+use trials::print::number;
+use trials::print::text;
+use trials::print::title;
 
 fn standing() {
     title(b"whole: one session");

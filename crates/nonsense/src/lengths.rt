@@ -1,21 +1,21 @@
 // Every command that is lent a store, with that store one line short, one line long, and without a line. All its lines are alike.
-use crate::base;
-use crate::base::one_session;
-use crate::change;
-use crate::commands::answered;
-use crate::commands::brought;
-use crate::commands::ended_or;
-use crate::commands::shown;
-use crate::print::end;
-use crate::print::number;
-use crate::print::text;
-use crate::print::title;
-use crate::stores;
 use books::ArchiveLine;
 use books::AuditLine;
 use books::LogLine;
 use ground::both;
 use state::State;
+use trials::base;
+use trials::base::one_session;
+use trials::change;
+use trials::commands::answered;
+use trials::commands::brought;
+use trials::commands::ended_or;
+use trials::commands::shown;
+use trials::print::end;
+use trials::print::number;
+use trials::print::text;
+use trials::print::title;
+use trials::stores;
 
 fn log_249(a: [LogLine; 249]) -> bool {
     let mut good = true;

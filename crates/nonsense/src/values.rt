@@ -1,14 +1,14 @@
 // Every command on states with one setting, in force or staged at a door, that does not fit, and with a pair out of order.
-use crate::base::one_session;
-use crate::base::staged;
-use crate::base::two_sessions;
-use crate::change;
-use crate::commands::every;
-use crate::print::end;
-use crate::print::number;
-use crate::print::text;
-use crate::print::value;
 use settings::Value;
+use trials::base::one_session;
+use trials::base::staged;
+use trials::base::two_sessions;
+use trials::change;
+use trials::commands::every;
+use trials::print::end;
+use trials::print::number;
+use trials::print::text;
+use trials::print::value;
 
 fn at_door(door: u64, setting: u64, place: usize, v: Value) {
     text(b"staged");

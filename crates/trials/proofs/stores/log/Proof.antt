@@ -1,25 +1,25 @@
--- `stores::archive` is safe and ends: the place stays below 15.
+-- `stores::log` is safe and ends: the place stays below 250.
 -- Assumes nothing.
 use Prim.Native.Nat.{_≤_, _-_}
 use native.Mathlib.Omega.{arith}
 use borrow.Author.Needs.{needs}
-use Rattle.nonsense.proofs.stores.archive.Statement.{statement}
-use Rattle.nonsense.proofs.stores.archive.Tie as tie
+use Rattle.trials.proofs.stores.log.Statement.{statement}
+use Rattle.trials.proofs.stores.log.Tie as tie
 
 abbrev Inv-loop : tie.InvT-loop
-Inv-loop a₀ k₀ a k = k ≤ 15
+Inv-loop a₀ k₀ a k = k ≤ 250
 
 abbrev μ-loop : tie.MeasureT-loop
-μ-loop a₀ k₀ a k = 15 - k
+μ-loop a₀ k₀ a k = 250 - k
 
-archive-line-requires : tie.Need-archive-line-requires Inv-loop μ-loop
-archive-line-requires c κs = search needs
+log-line-requires : tie.Need-log-line-requires Inv-loop μ-loop
+log-line-requires c κs = search needs
 
 loop-holds : tie.Need-loop-holds Inv-loop μ-loop
 loop-holds c = omega arith
 
-archive-line-requires-2 : tie.Need-archive-line-requires-2 Inv-loop μ-loop
-archive-line-requires-2 c κs = search needs
+log-line-requires-2 : tie.Need-log-line-requires-2 Inv-loop μ-loop
+log-line-requires-2 c κs = search needs
 
 mul-a : tie.Need-mul-a Inv-loop μ-loop
 mul-a c = omega arith
@@ -39,15 +39,15 @@ loop-again c = omega arith
 returns : tie.Need-returns Inv-loop μ-loop
 returns c = search needs
 
-pub archive-spec : {M : Type 1} → statement M
-archive-spec =
+pub log-spec : {M : Type 1} → statement M
+log-spec =
     tie.close
     (tie.spec
     Inv-loop
     μ-loop
-    archive-line-requires
+    log-line-requires
     loop-holds
-    archive-line-requires-2
+    log-line-requires-2
     mul-a
     array-set-from-a
     add-k

@@ -1,10 +1,10 @@
--- `same::cells_all` is safe and ends: the place stays below 21.
+-- `same::settings_all` is safe and ends: the place stays below 21.
 -- Assumes nothing.
 use Prim.Native.Nat.{_≤_, _-_}
 use native.Mathlib.Omega.{arith}
 use borrow.Author.Needs.{needs}
-use Rattle.nonsense.proofs.same.cells_all.Statement.{statement}
-use Rattle.nonsense.proofs.same.cells_all.Tie as tie
+use Rattle.trials.proofs.same.settings_all.Statement.{statement}
+use Rattle.trials.proofs.same.settings_all.Tie as tie
 
 abbrev Inv-loop : tie.InvT-loop
 Inv-loop a b good₀ k₀ good k = k ≤ 21
@@ -27,8 +27,8 @@ mul-y c = omega arith
 array-copy-out-y : tie.Need-array-copy-out-y Inv-loop μ-loop
 array-copy-out-y c = omega arith
 
-cells-requires : tie.Need-cells-requires Inv-loop μ-loop
-cells-requires c κs = search needs
+values-requires : tie.Need-values-requires Inv-loop μ-loop
+values-requires c κs = search needs
 
 both-requires : tie.Need-both-requires Inv-loop μ-loop
 both-requires c κs = search needs
@@ -45,8 +45,8 @@ loop-again c = omega arith
 returns : tie.Need-returns Inv-loop μ-loop
 returns c = search needs
 
-pub cells-all-spec : {M : Type 1} → statement M
-cells-all-spec =
+pub settings-all-spec : {M : Type 1} → statement M
+settings-all-spec =
     tie.close
     (tie.spec
     Inv-loop
@@ -56,7 +56,7 @@ cells-all-spec =
     array-copy-out-x
     mul-y
     array-copy-out-y
-    cells-requires
+    values-requires
     both-requires
     add-k
     loop-less

@@ -1,16 +1,16 @@
--- `same::settings_all` is safe and ends: the place stays below 21.
+-- `stores::archive_kept` is safe and ends: the place stays below 15.
 -- Assumes nothing.
 use Prim.Native.Nat.{_≤_, _-_}
 use native.Mathlib.Omega.{arith}
 use borrow.Author.Needs.{needs}
-use Rattle.nonsense.proofs.same.settings_all.Statement.{statement}
-use Rattle.nonsense.proofs.same.settings_all.Tie as tie
+use Rattle.trials.proofs.stores.archive_kept.Statement.{statement}
+use Rattle.trials.proofs.stores.archive_kept.Tie as tie
 
 abbrev Inv-loop : tie.InvT-loop
-Inv-loop a b good₀ k₀ good k = k ≤ 21
+Inv-loop a good₀ k₀ good k = k ≤ 15
 
 abbrev μ-loop : tie.MeasureT-loop
-μ-loop a b good₀ k₀ good k = 21 - k
+μ-loop a good₀ k₀ good k = 15 - k
 
 loop-holds : tie.Need-loop-holds Inv-loop μ-loop
 loop-holds c = omega arith
@@ -21,14 +21,11 @@ mul-x c = omega arith
 array-copy-out-x : tie.Need-array-copy-out-x Inv-loop μ-loop
 array-copy-out-x c = omega arith
 
-mul-y : tie.Need-mul-y Inv-loop μ-loop
-mul-y c = omega arith
+archive-line-requires : tie.Need-archive-line-requires Inv-loop μ-loop
+archive-line-requires c κs = search needs
 
-array-copy-out-y : tie.Need-array-copy-out-y Inv-loop μ-loop
-array-copy-out-y c = omega arith
-
-values-requires : tie.Need-values-requires Inv-loop μ-loop
-values-requires c κs = search needs
+archive-same-requires : tie.Need-archive-same-requires Inv-loop μ-loop
+archive-same-requires c κs = search needs
 
 both-requires : tie.Need-both-requires Inv-loop μ-loop
 both-requires c κs = search needs
@@ -45,8 +42,8 @@ loop-again c = omega arith
 returns : tie.Need-returns Inv-loop μ-loop
 returns c = search needs
 
-pub settings-all-spec : {M : Type 1} → statement M
-settings-all-spec =
+pub archive-kept-spec : {M : Type 1} → statement M
+archive-kept-spec =
     tie.close
     (tie.spec
     Inv-loop
@@ -54,9 +51,8 @@ settings-all-spec =
     loop-holds
     mul-x
     array-copy-out-x
-    mul-y
-    array-copy-out-y
-    values-requires
+    archive-line-requires
+    archive-same-requires
     both-requires
     add-k
     loop-less

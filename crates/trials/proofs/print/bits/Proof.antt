@@ -5,8 +5,8 @@ use mathlib.Core.Bool.{not}
 use lib.Dec.{T}
 use lib.Ieee.{Float, nan, inf, fin, eq, isNan}
 use borrow.Author.Needs.{needs}
-use Rattle.nonsense.proofs.print.bits.Statement.{statement}
-use Rattle.nonsense.proofs.print.bits.Tie as tie
+use Rattle.trials.proofs.print.bits.Statement.{statement}
+use Rattle.trials.proofs.print.bits.Tie as tie
 
 no-nan : (x : Float) → T (eq x x) → T (not (isNan x))
 unfolding eq isNan

@@ -1,16 +1,16 @@
--- `stores::log_kept` is safe and ends: the place stays below 250.
+-- `same::cells_all` is safe and ends: the place stays below 21.
 -- Assumes nothing.
 use Prim.Native.Nat.{_≤_, _-_}
 use native.Mathlib.Omega.{arith}
 use borrow.Author.Needs.{needs}
-use Rattle.nonsense.proofs.stores.log_kept.Statement.{statement}
-use Rattle.nonsense.proofs.stores.log_kept.Tie as tie
+use Rattle.trials.proofs.same.cells_all.Statement.{statement}
+use Rattle.trials.proofs.same.cells_all.Tie as tie
 
 abbrev Inv-loop : tie.InvT-loop
-Inv-loop a good₀ k₀ good k = k ≤ 250
+Inv-loop a b good₀ k₀ good k = k ≤ 21
 
 abbrev μ-loop : tie.MeasureT-loop
-μ-loop a good₀ k₀ good k = 250 - k
+μ-loop a b good₀ k₀ good k = 21 - k
 
 loop-holds : tie.Need-loop-holds Inv-loop μ-loop
 loop-holds c = omega arith
@@ -21,11 +21,14 @@ mul-x c = omega arith
 array-copy-out-x : tie.Need-array-copy-out-x Inv-loop μ-loop
 array-copy-out-x c = omega arith
 
-log-line-requires : tie.Need-log-line-requires Inv-loop μ-loop
-log-line-requires c κs = search needs
+mul-y : tie.Need-mul-y Inv-loop μ-loop
+mul-y c = omega arith
 
-log-same-requires : tie.Need-log-same-requires Inv-loop μ-loop
-log-same-requires c κs = search needs
+array-copy-out-y : tie.Need-array-copy-out-y Inv-loop μ-loop
+array-copy-out-y c = omega arith
+
+cells-requires : tie.Need-cells-requires Inv-loop μ-loop
+cells-requires c κs = search needs
 
 both-requires : tie.Need-both-requires Inv-loop μ-loop
 both-requires c κs = search needs
@@ -42,8 +45,8 @@ loop-again c = omega arith
 returns : tie.Need-returns Inv-loop μ-loop
 returns c = search needs
 
-pub log-kept-spec : {M : Type 1} → statement M
-log-kept-spec =
+pub cells-all-spec : {M : Type 1} → statement M
+cells-all-spec =
     tie.close
     (tie.spec
     Inv-loop
@@ -51,8 +54,9 @@ log-kept-spec =
     loop-holds
     mul-x
     array-copy-out-x
-    log-line-requires
-    log-same-requires
+    mul-y
+    array-copy-out-y
+    cells-requires
     both-requires
     add-k
     loop-less

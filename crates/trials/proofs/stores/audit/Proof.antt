@@ -3,8 +3,8 @@
 use Prim.Native.Nat.{_≤_, _-_}
 use native.Mathlib.Omega.{arith}
 use borrow.Author.Needs.{needs}
-use Rattle.nonsense.proofs.stores.audit.Statement.{statement}
-use Rattle.nonsense.proofs.stores.audit.Tie as tie
+use Rattle.trials.proofs.stores.audit.Statement.{statement}
+use Rattle.trials.proofs.stores.audit.Tie as tie
 
 abbrev Inv-loop : tie.InvT-loop
 Inv-loop a₀ k₀ a k = k ≤ 200

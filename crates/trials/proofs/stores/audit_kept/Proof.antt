@@ -1,16 +1,16 @@
--- `stores::archive_kept` is safe and ends: the place stays below 15.
+-- `stores::audit_kept` is safe and ends: the place stays below 200.
 -- Assumes nothing.
 use Prim.Native.Nat.{_≤_, _-_}
 use native.Mathlib.Omega.{arith}
 use borrow.Author.Needs.{needs}
-use Rattle.nonsense.proofs.stores.archive_kept.Statement.{statement}
-use Rattle.nonsense.proofs.stores.archive_kept.Tie as tie
+use Rattle.trials.proofs.stores.audit_kept.Statement.{statement}
+use Rattle.trials.proofs.stores.audit_kept.Tie as tie
 
 abbrev Inv-loop : tie.InvT-loop
-Inv-loop a good₀ k₀ good k = k ≤ 15
+Inv-loop a good₀ k₀ good k = k ≤ 200
 
 abbrev μ-loop : tie.MeasureT-loop
-μ-loop a good₀ k₀ good k = 15 - k
+μ-loop a good₀ k₀ good k = 200 - k
 
 loop-holds : tie.Need-loop-holds Inv-loop μ-loop
 loop-holds c = omega arith
@@ -21,11 +21,11 @@ mul-x c = omega arith
 array-copy-out-x : tie.Need-array-copy-out-x Inv-loop μ-loop
 array-copy-out-x c = omega arith
 
-archive-line-requires : tie.Need-archive-line-requires Inv-loop μ-loop
-archive-line-requires c κs = search needs
+audit-line-requires : tie.Need-audit-line-requires Inv-loop μ-loop
+audit-line-requires c κs = search needs
 
-archive-same-requires : tie.Need-archive-same-requires Inv-loop μ-loop
-archive-same-requires c κs = search needs
+audit-same-requires : tie.Need-audit-same-requires Inv-loop μ-loop
+audit-same-requires c κs = search needs
 
 both-requires : tie.Need-both-requires Inv-loop μ-loop
 both-requires c κs = search needs
@@ -42,8 +42,8 @@ loop-again c = omega arith
 returns : tie.Need-returns Inv-loop μ-loop
 returns c = search needs
 
-pub archive-kept-spec : {M : Type 1} → statement M
-archive-kept-spec =
+pub audit-kept-spec : {M : Type 1} → statement M
+audit-kept-spec =
     tie.close
     (tie.spec
     Inv-loop
@@ -51,8 +51,8 @@ archive-kept-spec =
     loop-holds
     mul-x
     array-copy-out-x
-    archive-line-requires
-    archive-same-requires
+    audit-line-requires
+    audit-same-requires
     both-requires
     add-k
     loop-less
