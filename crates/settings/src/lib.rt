@@ -4,6 +4,7 @@ ghost use mathlib.Core.Path.{_≡_};
 ghost use lib.ListN.{getD, set};
 ghost use Rattle.settings.specs.Settings.{
   noSetting,
+  rows,
   rowOf,
   isFinite,
   withinB,
@@ -256,11 +257,18 @@ const ROWS: [Row; COUNT] = [
     },
 ];
 
+fn table() -> [Row; COUNT]
+    ensures { λ r. ⌜ r ≡ rows ⌝ }
+{
+    ROWS
+}
+
 pub fn row_of(k: usize) -> Row
     ensures { λ r. ⌜ r ≡ rowOf k ⌝ }
 {
     if k < COUNT {
-        ROWS[k]
+        let t = table();
+        t[k]
     } else {
         Row {
             coefficient: false,
@@ -417,11 +425,14 @@ pub fn right_for(k: usize, cal: bool, sup: bool, cust: bool) -> bool
 pub fn settings_fit(a: [Setting; COUNT]) -> bool
     ensures { λ r. ⌜ r ≡ settingsFitB a ⌝ }
 {
+    // The table is laid out once here, where `row_of` would lay it out anew for each setting.
+    let t = table();
     let mut good = true;
     for k in 0..COUNT {
+        let row = t[k];
         let x = a[k];
         let v = x.value;
-        let fine = setting_fits(k, v);
+        let fine = row_fits(row, v);
         good = both(fine, good);
     }
     good

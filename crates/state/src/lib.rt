@@ -4,7 +4,7 @@ ghost use mathlib.Core.Bool.{not, _||_};
 ghost use lib.ListN.{getD, set};
 ghost use Rattle.state.specs.State.{blankCell, noSession, nothingCounted, noAlarm, shutLocks, freshCore, fresh, cellB, cellsB, sessionB, countersB, latchedB, storesB, coreB, wholeB, withCore};
 ghost use Rattle.ground.specs.Below.{allBelow};
-ghost use Rattle.settings.specs.Settings.{settingCount};
+ghost use Rattle.settings.specs.Settings.{settingCount, fitsB};
 
 // Vm, VmD, Vb, VbD.
 pub struct Counters {
@@ -227,12 +227,22 @@ fn stores_ok(archive: ring::Ring, log: ring::Book, audit: ring::Book) -> bool
     ground::both(d, c)
 }
 
+// Only what is staged has to fit; where nothing is, the table is not looked at.
+fn staged_ok(staged: bool, k: usize, v: settings::Value) -> bool
+    ensures { λ r. ⌜ r ≡ (not staged || fitsB k v) ⌝ }
+{
+    if staged {
+        settings::setting_fits(k, v)
+    } else {
+        true
+    }
+}
+
 fn cell_ok(live: bool, k: usize, c: Cell) -> bool
     ensures { λ r. ⌜ r ≡ cellB live k c ⌝ }
 {
     let v = c.value;
-    let fits = settings::setting_fits(k, v);
-    let a = implies(c.staged, fits);
+    let a = staged_ok(c.staged, k, v);
     let b = implies(c.overtaken, c.read);
     let touched = ground::either(c.staged, c.read);
     let d = implies(touched, live);

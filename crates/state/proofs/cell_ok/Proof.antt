@@ -5,20 +5,17 @@ use borrow.Author.Needs.{needs}
 use Rattle.state.proofs.cell_ok.Statement.{statement}
 use Rattle.state.proofs.cell_ok.Tie as tie
 
-setting-fits-requires : tie.Need-setting-fits-requires
-setting-fits-requires c κs = search needs
+staged-ok-requires : tie.Need-staged-ok-requires
+staged-ok-requires c κs = search needs
 
 implies-requires : tie.Need-implies-requires
 implies-requires c κs = search needs
 
-implies-requires-2 : tie.Need-implies-requires-2
-implies-requires-2 c κs = search needs
-
 either-requires : tie.Need-either-requires
 either-requires c κs = search needs
 
-implies-requires-3 : tie.Need-implies-requires-3
-implies-requires-3 c κs = search needs
+implies-requires-2 : tie.Need-implies-requires-2
+implies-requires-2 c κs = search needs
 
 both-requires : tie.Need-both-requires
 both-requires c κs = search needs
@@ -28,17 +25,16 @@ both-requires-2 c κs = search needs
 
 returns : tie.Need-returns
 unfolding cellB
-returns c = simp (c .both2 .ensures, c .before .both .ensures, c .before .before .implies3 .ensures, c .before .before .before .either .ensures, c .before .before .before .before .implies2 .ensures, c .before .before .before .before .before .implies .ensures, c .before .before .before .before .before .before .setting-fits .ensures)
+returns c = simp (c .both2 .ensures, c .before .both .ensures, c .before .before .implies2 .ensures, c .before .before .before .either .ensures, c .before .before .before .before .implies .ensures, c .before .before .before .before .before .staged-ok .ensures)
 
 pub cell-ok-spec : {M : Type 1} → statement M
 cell-ok-spec =
     tie.close
     (tie.spec
-    setting-fits-requires
+    staged-ok-requires
     implies-requires
-    implies-requires-2
     either-requires
-    implies-requires-3
+    implies-requires-2
     both-requires
     both-requires-2
     returns)
