@@ -1,0 +1,161 @@
+// The numbers of the fault card: when each is given, and what a fitter does about it.
+use crate::print::next_cell;
+use crate::print::number;
+use crate::print::row_begins;
+use crate::print::row_ends;
+use crate::print::text;
+
+const SETTINGS: u64 = settings::COUNT as u64;
+
+fn given(fault: u64) {
+    row_begins();
+    number(fault);
+    next_cell();
+}
+
+fn remedied(remedy: &[u8]) {
+    next_cell();
+    text(remedy);
+    row_ends();
+}
+
+fn plain(fault: u64, when: &[u8], remedy: &[u8]) {
+    given(fault);
+    text(when);
+    remedied(remedy);
+}
+
+// A row that names a limit of the device between its words.
+fn limit(fault: u64, before: &[u8], most: u64, after: &[u8], remedy: &[u8]) {
+    given(fault);
+    text(before);
+    number(most);
+    text(after);
+    remedied(remedy);
+}
+
+// A row that names the sizes of the stores in brackets, which its first words open.
+fn sized(fault: u64, before: &[u8], after: &[u8], remedy: &[u8]) {
+    given(fault);
+    text(before);
+    number(ring::ARCHIVE_LINES);
+    text(b" archive, ");
+    number(ring::LOG_LINES);
+    text(b" logbook, ");
+    number(ring::AUDIT_LINES);
+    text(b" audit lines)");
+    text(after);
+    remedied(remedy);
+}
+
+// What is wrong with the call itself.
+fn of_the_call() {
+    plain(0, b"Done", b"Nothing");
+    sized(
+        1,
+        b"A store lent to the call has not its exact length (",
+        b", or the state is not whole",
+        b"Stop: the box's memory or the program that calls it is damaged. Change nothing, seal the box, call the workshop",
+    );
+    plain(
+        2,
+        b"Begin at a door with an open session",
+        b"Go on in that session, or abandon it and begin again",
+    );
+    limit(
+        3,
+        b"Door not 1 (keypad) or 2 (optical port), setting not 1 to ",
+        SETTINGS,
+        b", lock not 1 to 3",
+        b"Look the number up on this card and give the command again",
+    );
+    plain(
+        4,
+        b"Read, Write, Commit or Abandon at a door with no session",
+        b"Begin first; what an ended session had read or staged is gone",
+    );
+}
+
+// What a cycle or a start brings.
+fn of_the_cycle() {
+    plain(
+        5,
+        b"Cycle time before the last accepted time",
+        b"Set the clock if it is slow; if the report's time is ahead of the true time, call the workshop",
+    );
+    limit(
+        6,
+        b"Cycle or start time of ",
+        calendar::END_OF_TIME,
+        b" s or more (the end of 2099)",
+        b"Set the clock. A refused start leaves a box at time 0 with codes 0: start it again",
+    );
+    limit(
+        7,
+        b"More than ",
+        units::MOST_PULSES,
+        b" pulses in one cycle",
+        b"Look for bounce on the pulse line and for missed cycles. The cycle was not counted: note the meter's index",
+    );
+}
+
+// Codes, values and commits.
+fn of_the_settings() {
+    plain(
+        8,
+        b"Lock 2 or 3 opened with a wrong code, also if it is open already",
+        b"Get the right code from its owner and open again; the lock stands as it stood",
+    );
+    plain(
+        9,
+        b"Value of the wrong kind or outside its range, or a float not finite",
+        b"Take a value from the table below and write again; the session is still open",
+    );
+    plain(
+        10,
+        b"A lock missing for a staged setting at Commit, or for Clear",
+        b"Open the lock it needs (last line of this page). A commit's session has ended: begin, write and commit anew",
+    );
+    plain(
+        11,
+        b"Stale commit: a setting read in this session was since put in force through the other door",
+        b"Begin, read the settings again, work out your value again, write and commit anew",
+    );
+    plain(
+        12,
+        b"pMin above pMax, or TMin above TMax, as it would stand after the commit",
+        b"Begin, read both ends of the pair, write a Min that is not above its Max, commit anew",
+    );
+}
+
+// A line asked for; and the last row of the card, which is there though no whole state comes to it.
+fn the_last_two() {
+    sized(
+        13,
+        b"The line asked for is not held (at most ",
+        b"",
+        b"Ask for a lower line number; line 0 is the newest, and a fresh store holds none",
+    );
+    limit(
+        14,
+        b"A cycle's Vb amount of ",
+        units::BASE_ROLLOVER,
+        b" or more hundred-thousandths of a litre",
+        b"No sound box can come to this: do as for 1",
+    );
+}
+
+pub fn run() {
+    text(b"## Numbers 0 to 14\n\n");
+    text(b"| No. | Given when | What to do |\n|--:|---|---|\n");
+    of_the_call();
+    of_the_cycle();
+    of_the_settings();
+    the_last_two();
+    text(
+        b"\nWhere several apply, 1 comes first, then 3, then 2 or 4, then the rest in rising number. A refusal gives no value and changes\n",
+    );
+    text(
+        b"nothing; but a commit refused with 10, 11 or 12 also ends its session, and what that had read or staged is gone.\n",
+    );
+}

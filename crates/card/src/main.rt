@@ -1,0 +1,17 @@
+// Prints docs/FAULT-CARD.md: the numbers that the device answers, and its settings. Limits, sizes, ranges, factory values and locks are the
+// device's own, so that a change of the device changes what is printed, and the gate then refuses the committed page.
+mod faults;
+mod print;
+mod table;
+
+use print::text;
+
+fn main() {
+    text(b"# Hnchakorim: fault card and settings\n\n");
+    text(
+        b"Printed by the program `card`, with limits, sizes, ranges, factory values and locks from the device's own rows; not edited by hand.\n\n",
+    );
+    faults::run();
+    text(b"\n");
+    table::run();
+}
