@@ -1,4 +1,5 @@
-"""The forms of walks: a straight line of calls, a loop that stores into a ring, a branch that reads one element; and the types of a crate."""
+"""The forms of walks: a straight line of calls, a chain of branches that return, a loop that stores into a ring, a branch that reads one element;
+and the types of a crate."""
 import os, re, sys
 
 from sources import ROOT, Signature, arg, crate_of, last, leaves, put
@@ -28,6 +29,73 @@ def types(crate, structs=[], enums=[]):
 # ---- a straight line
 
 
+def braces(text):
+    """The text as it stands in a text that is yet to be filled in."""
+    return text.replace("{", "{{").replace("}", "}}")
+
+
+def take_step(w, step, requires):
+    """A step that is no branch: a call, a length, a copy, or a store that is lent on."""
+    if step[0] == "call":
+        return w.call(int(step[1][1:]), step[2], step[3], requires.get(last(step[2])))
+    if step[0] != "set" or "." in step[1]:
+        sys.exit("walk.py: %s: a step that no form has: %s" % (w.name, step))
+    local, (kind, *rest) = int(step[1][1:]), step[2]
+    slice = None
+    if kind == "copy" and re.match(r"_\d+\.1$", rest[0]):
+        slice = w.slice_at(int(rest[0][1:-2]))
+    if slice:
+        w.length(local, slice)
+    elif kind == "copy" and rest[0] == "unit":
+        w.unit(local)
+    elif kind == "copy":
+        w.copy(local, rest[0])
+    elif kind == "address" and re.match(r"_\d+\.0\.\*$", rest[0]):
+        of = int(rest[0][1:].split(".")[0])
+        w.sets(local, "(addr ! (from ! (fld ! refl (hop ! (look-in ! %d (sub ! 0 refl (whole !))) (stop !)))))" % w.held.at("L%d" % of), "(tt, tt)")
+        w.refs[local] = of
+    elif kind == "address" and re.match(r"_\d+$", rest[0]):
+        w.sets(local, "(addr ! %s)" % STOP, "(tt, tt)")
+        w.refs[local] = int(rest[0][1:])
+    elif kind == "pack" and int(rest[0][0][1:].split(".")[0]) in w.refs:
+        ref = int(rest[0][0][1:])
+        of = w.refs[ref]
+        fits = "room-%s .0" % w.slice_at(of).x if w.slice_at(of) else "lit< tt"
+        w.sets(local, "(agg ! %s)" % w.operands(rest[0]), "(tt, (tt, (record { fits = %s }, tt)))" % fits)
+        if w.slice_at(of):
+            w.lent[local] = w.slice_at(of)
+        else:
+            mut = w.code.local_types[local].startswith("&mut")
+            array = Array(of, ref, local, mut, w.values[of][1])
+            array.now, _, array.fine = w.values[of]
+            w.lent[local] = array
+    else:
+        sys.exit("walk.py: %s: a step of no known form: %s" % (w.name, step))
+
+
+def locals_of(w):
+    """The module over the places of the locals, with their types as the listing writes them."""
+    return REST.format(ls=" ".join("l%d" % i for i in range(w.count)), list="".join("(ty%d, l%d) ∷ " % (i, i) for i in range(w.count)) + "[]", types="".join("abbrev ty%d : Ty\nty%d = spell M.table %s\n\n" % (i, i, t) for i, t in enumerate(w.code.written)))
+
+
+def give_back(w, returns, exits, brackets):
+    """The end: each `&mut` slice that was lent to no call goes as it stands, the locals are given up, and `exits` says that this is the contract."""
+    said_up = ""
+    for x, s in w.slices.items():
+        if s.mut and x not in w.ends:
+            said_up += w.held.move("own-" + x) + "use1 W (‵ (finally %s %s-γ %s-now)) (lets-go 𝓤 H A W (named %d) %s-κ %s (%s-at %s-now) (%s-val ∷ [])) $ " % (s.type.row, x, x, s.order, x, s.type.row, x, x, x)
+            w.held.first(1, "last-" + x)
+            w.ends[x] = (x + "-now", "refl")
+    if said_up:
+        w.out(said_up)
+    value, type, fine = w.values[0]
+    done = w.leave("%s (look ! %d refl) $" % (returns, w.held.at("L0")))
+    muts = [x for x in w.order if x in w.ends]
+    kept = ["token-" + x for x in w.slices] + ["last-" + x for x in muts]
+    w.out(done + "keep ! %s $ by ! (%s %s %s)" % (listed([w.held.at(k) for k in kept]), exits, fine, " ".join(w.ends[x][1] for x in muts)) + ")" * brackets)
+    return value, type
+
+
 def straight(name, unfold="", said=None, what="It is a straight line.", requires={}):
     w = Walk(name, what)
     w.start()
@@ -53,70 +121,21 @@ def straight(name, unfold="", said=None, what="It is a straight line.", requires
             lent = True
             cut()
         done += 1
-        if step[0] == "call":
-            w.call(int(step[1][1:]), step[2], step[3], requires.get(last(step[2])))
-            continue
-        if step[0] != "set" or "." in step[1]:
-            sys.exit("walk.py: %s is no straight line: %s" % (name, step))
-        local, (kind, *rest) = int(step[1][1:]), step[2]
-        slice = None
-        if kind == "copy" and re.match(r"_\d+\.1$", rest[0]):
-            slice = w.slice_at(int(rest[0][1:-2]))
-        if slice:
-            w.length(local, slice)
-        elif kind == "copy" and rest[0] == "unit":
-            w.unit(local)
-        elif kind == "copy":
-            w.copy(local, rest[0])
-        elif kind == "address" and re.match(r"_\d+\.0\.\*$", rest[0]):
-            of = int(rest[0][1:].split(".")[0])
-            w.sets(local, "(addr ! (from ! (fld ! refl (hop ! (look-in ! %d (sub ! 0 refl (whole !))) (stop !)))))" % w.held.at("L%d" % of), "(tt, tt)")
-            w.refs[local] = of
-        elif kind == "address" and re.match(r"_\d+$", rest[0]):
-            w.sets(local, "(addr ! %s)" % STOP, "(tt, tt)")
-            w.refs[local] = int(rest[0][1:])
-        elif kind == "pack" and int(rest[0][0][1:].split(".")[0]) in w.refs:
-            ref = int(rest[0][0][1:])
-            of = w.refs[ref]
-            fits = "room-%s .0" % w.slice_at(of).x if w.slice_at(of) else "lit< tt"
-            w.sets(local, "(agg ! %s)" % w.operands(rest[0]), "(tt, (tt, (record { fits = %s }, tt)))" % fits)
-            if w.slice_at(of):
-                w.lent[local] = w.slice_at(of)
-            else:
-                mut = w.code.local_types[local].startswith("&mut")
-                array = Array(of, ref, local, mut, w.values[of][1])
-                array.now, _, array.fine = w.values[of]
-                w.lent[local] = array
-        else:
-            sys.exit("walk.py: %s: a step of no known form: %s" % (name, step))
-    said_up = ""
-    for x, s in w.slices.items():
-        if s.mut and x not in w.ends:
-            said_up += w.held.move("own-" + x) + "use1 W (‵ (finally %s %s-γ %s-now)) (lets-go 𝓤 H A W (named %d) %s-κ %s (%s-at %s-now) (%s-val ∷ [])) $ " % (s.type.row, x, x, s.order, x, s.type.row, x, x, x)
-            w.held.first(1, "last-" + x)
-            w.ends[x] = (x + "-now", "refl")
-    if said_up:
-        w.out(said_up)
-    value, type, fine = w.values[0]
-    done = w.leave("returns ! (look ! %d refl) $" % w.held.at("L0"))
-    muts = [x for x in w.order if x in w.ends]
-    kept = ["token-" + x for x in w.slices] + ["last-" + x for x in muts]
-    w.out(done + "keep ! %s $ by ! (exits %s %s)" % (listed([w.held.at(k) for k in kept]), fine, " ".join(w.ends[x][1] for x in muts)) + ")" * (w.open - sum(p[4] for p in parts[:-1])))
-    places = " ".join("l%d" % i for i in range(w.count))
+        take_step(w, step, requires)
+    value, type = give_back(w, "returns !", "exits", w.open - sum(p[4] for p in parts[:-1]))
     lemmas = ""
     for name_, (told, ctx, depth), lines, _, _ in reversed(parts[1:]):
         body = "rest-of (" * depth + "code.function .body" + ")" * depth
         lemmas += PART.format(name=name_, told=told, arrow=" →" if told else "", names="".join(" " + t for t in re.findall(r"\((t-[^ ]+) :", told)), ctx=ctx, body="(%s)" % body, steps=indented("\n".join(lines), 6))
-    rest = REST.format(ls=places, list="".join("(ty%d, l%d) ∷ " % (i, i) for i in range(w.count)) + "[]", types="".join("abbrev ty%d : Ty\nty%d = spell M.table %s\n\n" % (i, i, t) for i, t in enumerate(w.code.written))) + lemmas
+    rest = locals_of(w) + lemmas
     entering = parts[0][2]
     w.names.cites(w.signature.ensures, w.crate)
     for word in unfold.split():
         w.names.defined(word)
-    w.names.laws(said or "")
+    w.names.laws(said or "", w.order)
     _, shape = leaves(w.signature.ensures)
     exits = w.exits(value, type, w.ends, said or shape, unfold)
     inside = "-- ---- the calls: what each is handed, that it is had, and what it gives\n" + "\n".join(w.facts) + "\n" + exits
-    braces = lambda text: text.replace("{", "{{").replace("}", "}}")
     w.save("", inside, WALK_MODULE % (braces(indented(rest, 2)), braces(indented("\n".join(entering), 6))))
 
 
@@ -128,6 +147,76 @@ module _ ({ls} : ℕ) where
 
 """
 PART = """  {name} :{told}{arrow} Sq W {ctx} (runs (𝓣 .C) (𝓣 .Λ) E {body} (atRet E Post))
+  {name}{names} =
+{steps}
+
+"""
+
+
+# ---- a chain of branches, each of which returns
+
+
+def forks(name, said, unfold="", what="It is a chain of branches: the arm of each returns.", requires={}):
+    w = Walk(name, what)
+    w.start()
+    entering, lemmas, exits = w.lines, [], []
+    w.out("passed" + "".join(" l%d" % i for i in range(w.count)) + ")" * w.open)
+    whole_body = lambda depth: "rest-of (" * depth + "code.function .body" + ")" * depth
+    ends = "(atRet E Post)"
+
+    def part(label, body, post):
+        """A lemma over what is held here; the steps that follow are its proof."""
+        w.lines, w.open = [], 0
+        lemmas.append((label, list(w.told), w.context(), body, post, w.lines))
+
+    def leaves_by(returns):
+        """The end of an arm, or of the whole: the law of this return, under the branches taken and passed on the way."""
+        n = len(exits) + 1
+        tests = [t for t in w.told if re.match(r"(yes|no)-\d+$", t[0])]
+        value, type = give_back(w, returns, "exits-%d%s" % (n, "".join(" " + t for t, _ in tests)), w.open)
+        exits.append(w.exits(value, type, w.ends, said[n - 1], unfold, "exits-%d" % n, tests))
+
+    part("passed", whole_body(0), ends)
+    w.take_apart()
+    w.out("from-0")
+    part("from-0", whole_body(0), ends)
+    done = branch = 0
+    for step in w.code.steps:
+        if step[0] == "return":
+            break
+        done += 1
+        if step[0] != "if":
+            take_step(w, step, requires)
+            continue
+        if step[2][-1] != ("return",) or step[3] != [("skip",)]:
+            sys.exit("walk.py: %s: a branch whose arm does not return" % name)
+        branch += 1
+        flag, local = w.values[int(step[1][1:])][0], int(step[1][1:])
+        w.out("first ! $ branches ! %s" % w.look(local))
+        known = "".join(" " + t for t, _ in w.told)
+        w.out("(λ yes-%d. arm-%d%s yes-%d)" % (branch, branch, known, branch))
+        w.out("(λ no-%d. skips ! $ exec ! (𝓣 .C) (𝓣 .Λ) E (%s) %s $ from-%d%s no-%d)" % (branch, whole_body(done), ends, done, known, branch) + ")" * w.open)
+        here = w.snapshot()
+        w.told.append(("yes-%d" % branch, "T %s" % arg(flag)))
+        part("arm-%d" % branch, "arm-of M.s-%d" % done, "(anyQ (afterSeq 𝓤 H (Wp 𝓤 H (𝓣 .C) (𝓣 .Λ) E (%s) (atReturn 𝓤 H E Post)) (atReturn 𝓤 H E Post)))" % whole_body(done))
+        for inner in step[2][:-1]:
+            take_step(w, inner, requires)
+        leaves_by("returns-within ! Post refl")
+        w.restore(here)
+        w.told.append(("no-%d" % branch, "T (not %s)" % arg(flag)))
+        part("from-%d" % done, whole_body(done), ends)
+    leaves_by("returns !")
+    text = "".join(FORK.format(name=label, told="".join(" (%s : %s)" % t for t in told), arrow=" →" if told else "", names="".join(" " + t for t, _ in told), ctx=ctx, body="(%s)" % body, post=post, steps=indented("\n".join(lines), 6))
+                   for label, told, ctx, body, post, lines in reversed(lemmas))
+    w.names.cites(w.signature.ensures, w.crate)
+    for word in unfold.split():
+        w.names.defined(word)
+    w.names.laws(" ".join(said), w.order)
+    inside = "-- ---- the calls: what each is handed, that it is had, and what it gives\n" + "\n".join(w.facts) + "\n-- ---- each return says what the contract says\n" + "\n".join(exits)
+    w.save("", inside, WALK_MODULE % (braces(indented(locals_of(w) + text, 2)), braces(indented("\n".join(entering), 6))))
+
+
+FORK = """  {name} :{told}{arrow} Sq W {ctx} (runs (𝓣 .C) (𝓣 .Λ) E {body} {post})
   {name}{names} =
 {steps}
 

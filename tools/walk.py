@@ -18,6 +18,11 @@ the compiler (tools/mir.py) and what each call says of its answer from the contr
         those by unfolding the definitions named in `unfold` (separated by spaces); where it does not, `said` gives the proof of it.
         `requires={"callee": "proof"}` proves what a callee asks.
 
+    forks("device::answer", said=["(by-cycle s log-now yes-1)", "(by-rest s log-now no-1)"])
+        the same for a function whose steps go on with `if flag { ..; return x; }`, once or more often, each arm a straight line as above.
+        `said` has a proof of the contract for each return, in the order of the text: the test of branch k is there as `yes-k : T flag`
+        in its arm and as `no-k : T (not flag)` past it. What is lent to no call on a way goes back as it came.
+
     ring("books::write_log")       the loop that stores lines one by one into a ring
     fetch("books::fetch_log")      the branch that reads one line
 
@@ -26,7 +31,8 @@ crate `books`. A slice parameter x is spoken of as x-now (its list), a plain one
 """
 import glob, os, sys
 
-from forms import fetch, ring, straight, types
+from forms import fetch, forks, ring, straight, types
+from loops import put, rounds
 
 HERE = os.path.dirname(os.path.abspath(__file__))
 
@@ -34,4 +40,4 @@ if __name__ == "__main__":
     if sys.argv[1:2] in (["-h"], ["--help"]):
         sys.exit(__doc__)
     for path in sys.argv[1:] or sorted(glob.glob(HERE + "/walks/*.py")):
-        exec(compile(open(path).read(), path, "exec"), {"types": types, "straight": straight, "ring": ring, "fetch": fetch})
+        exec(compile(open(path).read(), path, "exec"), {"types": types, "straight": straight, "forks": forks, "ring": ring, "fetch": fetch, "put": put, "rounds": rounds})

@@ -83,7 +83,7 @@ denote.Triple.Clauses: lasts
 denote.Triple.Table: entered cited
 denote.Triple.Walked: says needs Stays gave-slice stay-dropped walkOf AllGo goes-gave-slice goes-dropped Walks ends-at walked walk-meets
 denote.Exit: yes"""
-WALK = "envAt tyAt rest-of Known vals Fine has gives answers lets-go calls-with calls-value"
+WALK = "envAt tyAt rest-of arm-of Known vals Fine has gives answers lets-go calls-with calls-value"
 LOCAL = "lends-array array-comes-back array-back shares-array shared-comes-back"
 
 MACHINE = "{M′ : Type 1} (𝓤 : URA M′) (H : Heap 𝓤) (A : Atoms 𝓤) (W : Given 𝓤 H A) (at-mem : Memory → SProp 𝓤) (run : Routine → Fun 𝓤)"
@@ -134,13 +134,13 @@ class Names:
                     return self.use(self.specs(c, inner), name)
         sys.exit("walk.py: no definition of " + name)
 
-    def laws(self, text):
-        """Brings in the laws that a text names, from the modules of proofs/."""
-        for word in dict.fromkeys(re.findall(r"[^\s(){},;.]+", text)):
-            for c in sorted(os.listdir(ROOT + "/crates"), key=lambda c: c != self.crate):
-                for f in glob.glob("%s/crates/%s/proofs/*.antt" % (ROOT, c)):
-                    if re.search(r"^ *pub %s :" % re.escape(word), open(f).read(), re.M):
-                        self.use(self.proofs(c, os.path.basename(f)[:-5]), word)
+    def laws(self, text, params=()):
+        """Brings in the laws that a text names, from the modules of proofs/. The parameters of the function are no laws."""
+        for word in dict.fromkeys(w for w in re.findall(r"[^\s(){},;.]+", text) if w not in params):
+            found = [(c, f) for c in sorted(os.listdir(ROOT + "/crates"), key=lambda c: c != self.crate) for f in glob.glob("%s/crates/%s/proofs/*.antt" % (ROOT, c))
+                     if re.search(r"^ *pub %s :" % re.escape(word), open(f).read(), re.M)]
+            for c, f in found[:1]:
+                self.use(self.proofs(c, os.path.basename(f)[:-5]), word)
 
     def text(self, body):
         words = set(re.findall(r"[^\s(){},;.]+", re.sub(r"^ *--.*$", "", body, flags=re.M)))
@@ -277,7 +277,7 @@ class Array(Slice):
         """The local's cell is lent for a new lifetime. The slice's count is the length of the list."""
         l, α, γ = self.here(name).split()
         R, E = self.type.row, self.type.known
-        w.out("rewrite ! %d (λ (m : ℕ). ‵ (fat fullShare (tyAt (code.function .locals) %d) l%d 0 (sliceVal (%s, 0) m))) (sym %s) refl $" % (w.held.at("L%d" % self.slice), self.slice, self.slice, l, self.length()))
+        w.out("rewrite ! %d (λ (m : ℕ). ‵ (fat fullShare %s l%d 0 (sliceVal (%s, 0) m))) (sym %s) refl $" % (w.held.at("L%d" % self.slice), w.ty(self.slice), self.slice, l, self.length()))
         said = "lft-new ! tt (λ %s. has ! %s %s %s $ " % (α, self.array.known, arg(self.now), self.fine)
         w.held.first(0, "own", "token-" + self.x)
         said += w.held.move("L%d" % self.local, "own")
@@ -304,11 +304,12 @@ class Array(Slice):
             w.held.first(2, "row")
         same = "(len-%s-%s ∙ %s)" % (self.x, name, self.length()) if self.mut else self.length()
         ok = "ok-%s-%s" % (self.x, name)
-        said += "use1 W (given (Fine %s %s) (‵ (fat fullShare (tyAt (code.function .locals) %d) %s 0 (%s .val %s)))) (array-back 𝓤 H A W %s %s %s %s %s) $ learn ! (λ %s." % (K, arg(zs), self.local, l, K, arg(zs), E, n, arg(zs), l, same, ok)
+        said += "use1 W (given (Fine %s %s) (‵ (fat fullShare %s %s 0 (%s .val %s)))) (array-back 𝓤 H A W %s %s %s %s %s) $ learn ! (λ %s." % (K, arg(zs), w.ty(self.local), l, K, arg(zs), E, n, arg(zs), l, same, ok)
         w.held.first(1, "L%d" % self.local)
         w.open += 1
         w.out(said)
         w.values[self.local] = (zs, self.array, ok)
+        w.told.append((ok, "Fine %s %s" % (K, arg(zs))))
 
 
 class Call:
@@ -348,8 +349,22 @@ class Call:
         self.asks = walk.fill(sig.requires, sig, values, nows) if sig.requires else None
         self.arrays = [s for s in self.lent if isinstance(s, Array)]
         self.muts = [s for s in self.lent if s.mut]
+        self.named = self.names_of_answers() if walk.naming and self.turn else ""
         self.plains = [(n, p) for n, p in enumerate(self.parts) if not isinstance(p, Slice)]
         self.texts_of_memory()
+
+    def names_of_answers(self):
+        """A name for the answer and for each last list, as what they are in turn k: later texts stay short."""
+        text, name = "", "is-" + self.name
+        if self.path is not None:
+            text += "abbrev %s : ℕ → %s\n%s k = %s\n\n" % (name, self.result.means, name, self.answer)
+            self.answer = "(%s k)" % name
+        for s in self.muts:
+            list_, path = self.news[s]
+            name = "is-%s-%s" % (self.name, s.x)
+            text += "abbrev %s : ℕ → List %s\n%s k = %s\n\n" % (name, s.type.means, name, list_)
+            self.news[s] = ("(%s k)" % name, path)
+        return text
 
     def texts_of_memory(self):
         """What goes in (`given`) and comes out (`back`), as propositions and as items of a walk."""
@@ -423,7 +438,7 @@ class Call:
         binders = self.turn + "".join(" " + s.binder() for s in self.arrays)
         handed = " ".join(" ".join(re.findall(r"\(([^:]*) :", binders)).split())
         fine = "".join("Fine %s %s → " % (p[1].known, arg(p[0])) for _, p in self.plains) + ("%s → " % arg(self.asks) if self.asks else "")
-        return """abbrev to-{n} : {kinds}{C} .Ghost
+        return self.named + """abbrev to-{n} : {kinds}{C} .Ghost
 to-{n} {h} = (({κ}, {q}, tt, {args}, {machine}), tt)
 
 asks-{n} : {b}{fine}ent 𝓤 {given} ({C} .pre {to})
@@ -439,12 +454,12 @@ gives-{n} {h} = {law}
         """A text of the lemmas, at the names that the walk has there."""
         for s in self.arrays:
             text = s.instance(text, self.name)
-        return put(text, {"k": "(k .0)"}) if self.turn else text
+        return put(text, {"k": self.walk.index}) if self.turn else text
 
     def step(self):
         """The call's step in the walk, up to its answer in its local."""
         w, held, n = self.walk, self.walk.held, self.name
-        names = " ".join((["(k .0)"] if self.turn else []) + [s.here(n) for s in self.arrays])
+        names = " ".join(([w.index] if self.turn else []) + [s.here(n) for s in self.arrays])
         to, gives = ("(to-%s %s)" % (n, names), "(gives-%s %s)" % (n, names)) if names else ("to-" + n, "gives-" + n)
         asks = "(asks-%s %s %s%s)" % (n, names, " ".join(p[2] for _, p in self.plains), " " + str(self.proof) if self.asks else "")
         for s in self.arrays:
@@ -547,10 +562,15 @@ class Walk:
         self.held = Held([w for i in reversed(range(self.count)) for w in ("L%d" % i, "D%d" % i)] + ["tokens", "owns"])
         self.filled, self.values, self.lines, self.open, self.told = set(), {}, [], 0, []
         self.callees, self.times, self.facts = [], {}, []
+        # a turn of a loop is spoken of by its number, k in the lemmas of the calls; there each answer gets a name
+        self.index, self.naming, self.spelled = "(k .0)", False, False
         self.ends = {}
         self.refs, self.lent = {}, {}
 
     # -- small steps
+    def ty(self, local):
+        return "ty%d" % local if self.spelled else "(tyAt (code.function .locals) %d)" % local
+
     def type(self, low, said=None):
         """The type of a local; the source tells signed from unsigned."""
         said = (said or low).strip()
@@ -604,6 +624,14 @@ class Walk:
         k = int(field[0])
         self.names.alias("denote.Struct.Laws", "SL")
         return "(%s .%s)" % (arg(value), names[k]), type, "(SL.owed %s′.the-type %s″.the-laws %s _ %s %s)" % (last(owner.path), last(owner.path), arg(value), fine, at(k))
+
+    def snapshot(self):
+        """What is held and known here, for a second way on from here."""
+        return list(self.held.labels), set(self.filled), dict(self.values), dict(self.ends), list(self.told), dict(self.refs), dict(self.lent)
+
+    def restore(self, here):
+        labels, self.filled, self.values, self.ends, self.told, self.refs, self.lent = (x.copy() for x in here)
+        self.held = Held(labels)
 
     # -- the parts of the walk
     def start(self):
@@ -783,8 +811,8 @@ Post = walkOf 𝓤 H A fn.ended stayed (fn.clauses 𝓤 H A at-mem run) .post {b
                     spells=nest(["slice-vals" if x in slices else "vals %s" % plain[x].known for x in order]),
                     tells=nest(["%s-slice-tells (named %d) (κs %s) %s" % ("mut" if mut(x) else "shr", slices[x].order, at(slices[x].order), slices[x].type.row) if x in slices else "%s .tells" % plain[x].known for x in order]))
 
-    def exits(self, value, type, ends, said, unfold):
-        """The lemma that what is kept at the end is what the contract says."""
+    def exits(self, value, type, ends, said, unfold, name="exits", tests=()):
+        """The lemma that what is kept at the end is what the contract says, under the tests on the way there."""
         muts = [x for x in self.order if x in ends]
         items = [("token-" + x, "‵ (flft %s-κ %s-q)" % (x, x)) for x in self.slices] + [("last-" + x, "‵ (finally %s %s-γ %s)" % (self.slices[x].type.row, x, ends[x][0])) for x in muts]
         h = Held(["T"] + [l for l, _ in items])
@@ -806,12 +834,12 @@ Post = walkOf 𝓤 H A fn.ended stayed (fn.clauses 𝓤 H A at-mem run) .post {b
         last_lists = nest([ends[x][0] if x in ends else "tt" for x in self.order])
         lengths = nest(["len-" + x if x in ends else "tt" for x in self.order])
         context = listed([i for _, i in items])
-        return """exits : Fine {K} {v} → {lens}ent 𝓤 (⋆ 𝓤 H A {ctx}) (Post ({K} .val {v}))
-{unf}exits ok {ls} =
+        return """{name} : {tests}Fine {K} {v} → {lens}ent 𝓤 (⋆ 𝓤 H A {ctx}) (Post ({K} .val {v}))
+{unf}{name}{passed} ok {ls} =
     qed W {ctx} ∵ suffices ! _ (ends-at 𝓤 H A fn.ended stayed (fn.clauses 𝓤 H A at-mem run) W {bound} ({K} .val {v}) {v} {ends} {fits}) $ says ! {said} $
     {body}
 """.format(K=type.known, v=arg(value), lens="".join("length %s ≡ length %s-now → " % (ends[x][0], x) for x in muts), ctx=context, unf="unfolding %s\n" % unfold if unfold else "", ls=" ".join("len-" + x for x in muts),
-           bound=self.frame()["bound"], ends=last_lists, fits=lengths, said=said, body=body)
+           bound=self.frame()["bound"], ends=last_lists, fits=lengths, said=said, body=body, name=name, tests="".join("(%s : %s) → " % t for t in tests), passed="".join(" " + t for t, _ in tests))
 
     def save(self, before, inside, walk_module):
         """Writes the file: the lemmas `before` the module of the arguments, those `inside` it, and those of the walk, over the tables."""

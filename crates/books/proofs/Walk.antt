@@ -1,6 +1,7 @@
 -- What the walks of functions over lent books share: a walk goes through the function's steps one by one, and holds at each what memory,
 -- borrows and tokens there are. It says nothing of the books.
 --     envAt, tyAt, rest-of    the locals of a function at their places; the type of one; what follows the first step
+--     arm-of      what a branch does where its test holds
 --     Known R     of a type of plain data R: the machine value of each value, and the laws of it
 --     Fine k x    x is a value of its type, with that machine value; `has` then owns it for nothing
 --     lets-go     a lent slice is given up as it stands
@@ -65,6 +66,18 @@ rest-of (switch c arms) = skip
 rest-of (exit n) = skip
 rest-of return = skip
 rest-of (call f xs d) = skip
+
+abbrev pub arm-of : Body → Body
+arm-of skip = skip
+arm-of (seq a b) = skip
+arm-of (assign p r) = skip
+arm-of (block b) = skip
+arm-of (loop b) = skip
+arm-of (cond c a b) = a
+arm-of (switch c arms) = skip
+arm-of (exit n) = skip
+arm-of return = skip
+arm-of (call f xs d) = skip
 
 -- ---- a type of plain data
 pub record Known (R : RattleType) : Type 2 where

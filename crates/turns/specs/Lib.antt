@@ -1,0 +1,3 @@
+-- One command over stores that are lent.
+pub mod Plan
+pub mod Turns
