@@ -1,5 +1,5 @@
 -- Where the limits and the fixed value lie, there lies what is taken: p and K between two bounds, T within -10,000..20,000, and so T in
--- kelvin from 17,315 to 47,315.
+-- kelvin, which is T plus 27,315, from 17,315 to 47,315.
 -- Assumes nothing.
 use mathlib.Core.Path.{_≡_, refl}
 use mathlib.Core.Bool.{Bool, true, false, _||_, cond}
@@ -8,7 +8,7 @@ use native.Mathlib.Nat.{le-refl, le-trans}
 use native.Mathlib.Omega.{arith}
 use borrow.Author.Tests.{ltb-false, le-ltb}
 use lib.Dec.{ltb, eqb}
-use lib.IntN.{ℤ, pos, negsuc}
+use lib.IntN.{ℤ, pos, negsuc, _+ℤ_}
 use lib.Signed.{ltZ}
 use Rattle.ground.proofs.Flags.{or-false-left, or-false-right}
 use Rattle.temperature.specs.declared.Coefficients.{Coefficients}
@@ -100,3 +100,12 @@ kelvin-bounds (negsuc n) r =
     let h : n ≤ 9999 = ltb-false 9999 n (r .not-colder) in
     let k : ltb 27315 (suc n) ≡ false = le-ltb 27315 (suc n) (omega arith) in
     simp (r .not-colder, k) (record { not-below = omega arith; not-above = omega arith })
+
+-- within -10,000..20,000 it is T plus 27,315, and not the 0 of the rest
+pub kelvin-is : (t : ℤ) → InRange t → pos (kelvinOf t) ≡ t +ℤ pos 27315
+unfolding kelvinOf
+kelvin-is (pos n) r = simp (r .not-hotter)
+kelvin-is (negsuc n) r =
+    let h : n ≤ 9999 = ltb-false 9999 n (r .not-colder) in
+    let k : ltb 27315 (suc n) ≡ false = le-ltb 27315 (suc n) (omega arith) in
+    simp (r .not-colder, k)

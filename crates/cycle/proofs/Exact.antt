@@ -1,0 +1,154 @@
+-- The factor of a whole device's cycle is the paper's. What a whole state takes for p, T and K, and its pb and Tb, lie where the factor is
+-- asked, so that the factor of a cycle is p·Tb·10^9 / (pb·T·K), nearest, halves up, and never the 0 that stands for what lies outside.
+-- Settings 17 to 21 enter no formula: a cycle works with 1 to 16 alone.
+-- Assumes nothing.
+use mathlib.Core.Path.{_≡_, refl}
+use mathlib.Core.Bool.{Bool, true, false, cond}
+use mathlib.Core.List.{List}
+use Prim.Native.Nat.{ℕ, _+_, _*_, _≤_, _<_}
+use native.Mathlib.Omega.{arith}
+use lib.Dec.{eqb}
+use lib.ListN.{length}
+use lib.IntN.{pos, _+ℤ_}
+use borrow.Author.Tests.{le-leb}
+use Rattle.settings.specs.declared.Setting.{Setting}
+use Rattle.settings.specs.Settings.{valueAt, settingsFitB}
+use Rattle.settings.proofs.Laws.{pb-in, tb-in, p-min-in, p-max-in, p-f-in, t-f-in, k-f-in}
+use Rattle.temperature.proofs.Nearest.{InRange}
+use Rattle.readings.specs.Compressibility.{kLowest, kHighest}
+use Rattle.readings.specs.Kelvin.{kelvinOf}
+use Rattle.readings.proofs.Bounds.{Between, pressure-bounds, k-bounds, temperature-in-range, kelvin-bounds, kelvin-is}
+use Rattle.factor.specs.Factor.{numerator, denominator, factorOf, inRange, inRanges}
+use Rattle.factor.proofs.Laws.{taken, within-half, half-goes-up}
+use Rattle.books.specs.declared.ArchiveLine.{ArchiveLine}
+use Rattle.books.specs.declared.LogLine.{LogLine}
+use Rattle.state.specs.declared.State.{State}
+use Rattle.state.specs.State.{wholeB, withCore}
+use Rattle.state.proofs.Sound.{whole-sound}
+use Rattle.cycle.specs.declared.Brought.{Brought}
+use Rattle.cycle.specs.Cycle.{naturalAt, wholeAt, coefficientsIn, temperatureFor, pressureFor, kFor, alarmsFor, factorFor, amountsFor, cycleRefusal, cycledCore, Outcome, cycled, cycleOf}
+use Rattle.cycle.proofs.Laws.{refusedCycle}
+
+-- ---- what the settings let a cycle take
+
+module _ (a : List Setting) (e : settingsFitB a ≡ true) (r : Brought) where
+  p-within : Between 10000 10000000 (pressureFor a r .value)
+  unfolding pressureFor
+  p-within =
+      let f = p-f-in a e in
+      pressure-bounds 10000 10000000 (naturalAt a 4) (naturalAt a 7) (naturalAt a 8) (naturalAt a 14) (r .pressure) (p-min-in a e .from) (p-max-in a e .upto)
+      (record { not-below = f .from; not-above = f .upto })
+
+  t-within : InRange (temperatureFor a r .value)
+  unfolding temperatureFor
+  t-within =
+      let f = t-f-in a e in
+      temperature-in-range (naturalAt a 5) (wholeAt a 9) (wholeAt a 10) (wholeAt a 15) (coefficientsIn a) (r .raw) (record { not-colder = f .from; not-hotter = f .upto })
+
+  k-within : Between kLowest kHighest (kFor a r .value)
+  unfolding kFor
+  k-within =
+      let f = k-f-in a e in
+      k-bounds (naturalAt a 6) (naturalAt a 16) (r .k) (record { not-below = f .from; not-above = f .upto })
+
+range-held : (low high x : ℕ) → Between low high x → inRange low high x ≡ true
+unfolding inRange
+range-held low high x b = rw (le-leb low x (b .not-below), le-leb x high (b .not-above))
+
+-- ---- the factor
+
+-- T in kelvin, and the fraction of a cycle: p·Tb·10^9 over pb·T·K
+abbrev pub kelvinFor : List Setting → Brought → ℕ
+kelvinFor a r = kelvinOf (temperatureFor a r .value)
+
+abbrev pub numeratorFor : List Setting → Brought → ℕ
+numeratorFor a r = numerator (pressureFor a r .value) (naturalAt a 3)
+
+abbrev pub denominatorFor : List Setting → Brought → ℕ
+denominatorFor a r = denominator (naturalAt a 2) (kelvinFor a r) (kFor a r .value)
+
+module _ (s : State) (w : wholeB s ≡ true) (r : Brought) where
+  -- a whole state asks for the factor inside its ranges only
+  pub asked-in-ranges : let a = s .core .settings in inRanges (pressureFor a r .value) (naturalAt a 3) (naturalAt a 2) (kelvinFor a r) (kFor a r .value) ≡ true
+  unfolding inRanges
+  asked-in-ranges =
+      let a = s .core .settings in
+      let e = whole-sound s w .core .fit in
+      let x = tb-in a e in
+      let y = pb-in a e in
+      rw (range-held _ _ _ (p-within a e r), range-held 27315 29815 (naturalAt a 3) (record { not-below = x .from; not-above = x .upto }), range-held 90000 110000 (naturalAt a 2) (record { not-below = y .from; not-above = y .upto }), range-held _ _ _ (kelvin-bounds (temperatureFor a r .value) (t-within a e r)), range-held _ _ _ (k-within a e r))
+
+  -- T in kelvin is the T taken plus 27,315
+  pub kelvin-exact : let a = s .core .settings in pos (kelvinFor a r) ≡ temperatureFor a r .value +ℤ pos 27315
+  kelvin-exact = kelvin-is (temperatureFor (s .core .settings) r .value) (t-within (s .core .settings) (whole-sound s w .core .fit) r)
+
+  -- the factor of a cycle is C of the p, T and K taken
+  pub factor-exact : let a = s .core .settings in factorFor a r ≡ factorOf (pressureFor a r .value) (naturalAt a 3) (naturalAt a 2) (kelvinFor a r) (kFor a r .value)
+  unfolding factorFor
+  factor-exact = taken _ _ _ _ _ asked-in-ranges
+
+  -- twice the gap between the factor times pb·T·K and the fraction's numerator is at most pb·T·K
+  pub cycle-within-half : let a = s .core .settings in
+      (2 * (factorFor a r * denominatorFor a r) ≤ 2 * numeratorFor a r + denominatorFor a r) × (2 * numeratorFor a r ≤ 2 * (factorFor a r * denominatorFor a r) + denominatorFor a r)
+  cycle-within-half = rw factor-exact (within-half _ _ _ _ _ asked-in-ranges)
+
+  -- a fraction just between q and q + 1 gives q + 1
+  pub cycle-half-up : let a = s .core .settings in (q : ℕ) → 2 * numeratorFor a r ≡ (2 * q + 1) * denominatorFor a r → factorFor a r ≡ q + 1
+  cycle-half-up q h = rw factor-exact (half-goes-up _ _ _ _ _ q asked-in-ranges h)
+
+-- ---- settings 17 to 21
+
+module _ (a b : List Setting) (same : (k : ℕ) → k < 16 → valueAt a k ≡ valueAt b k) (r : Brought) where
+  temperature-same : temperatureFor a r ≡ temperatureFor b r
+  unfolding temperatureFor coefficientsIn
+  temperature-same = rw (same 4 (omega arith), same 8 (omega arith), same 9 (omega arith), same 10 (omega arith), same 11 (omega arith), same 12 (omega arith), same 14 (omega arith))
+
+  pressure-same : pressureFor a r ≡ pressureFor b r
+  unfolding pressureFor
+  pressure-same = rw (same 3 (omega arith), same 6 (omega arith), same 7 (omega arith), same 13 (omega arith))
+
+  k-same : kFor a r ≡ kFor b r
+  unfolding kFor
+  k-same = rw (same 5 (omega arith), same 15 (omega arith))
+
+  -- settings that agree in 1 to 16 give the same alarms, the same factor, the same amounts
+  pub alarms-same : alarmsFor a r ≡ alarmsFor b r
+  unfolding alarmsFor
+  alarms-same = rw (pressure-same, temperature-same, k-same)
+
+  pub factor-same : factorFor a r ≡ factorFor b r
+  unfolding factorFor
+  factor-same = rw (pressure-same, temperature-same, k-same, same 1 (omega arith), same 2 (omega arith))
+
+  pub amounts-same : amountsFor a r ≡ amountsFor b r
+  unfolding amountsFor
+  amounts-same = rw (factor-same, same 0 (omega arith))
+
+-- a state with other settings in force, and the outcome of a command with them
+abbrev pub withSettings : State → List Setting → State
+withSettings s b =
+    let c = s .core in
+    withCore s (record { time = c .time; month = c .month; counters = c .counters; alarms = c .alarms; latches = c .latches; locks = c .locks; settings = b; archive = c .archive; log = c .log; audit = c .audit })
+
+abbrev pub outcomeWith : Outcome → List Setting → Outcome
+outcomeWith o b = record { answer = record { number = o .answer .number; state = withSettings (o .answer .state) b }; archive = o .archive; log = o .log }
+
+module _ (s : State) (b : List Setting) (same : (k : ℕ) → k < 16 → valueAt (s .core .settings) k ≡ valueAt b k) (r : Brought) (archive : List ArchiveLine) (log : List LogLine) where
+  done-same : cycled (withSettings s b) r archive log ≡ outcomeWith (cycled s r archive log) b
+  unfolding cycled cycledCore withCore
+  done-same = rw (alarms-same (s .core .settings) b same r, amounts-same (s .core .settings) b same r)
+
+  refusal-same : wholeB (withSettings s b) ≡ wholeB s → cycleRefusal (withSettings s b) (length archive) (length log) r ≡ cycleRefusal s (length archive) (length log) r
+  unfolding cycleRefusal withCore
+  refusal-same w = rw (w, amounts-same (s .core .settings) b same r)
+
+  either-same : (number : ℕ) (done : Bool) → cond {A = Outcome} done (cycled (withSettings s b) r archive log) (refusedCycle number (withSettings s b) archive log)
+      ≡ outcomeWith (cond {A = Outcome} done (cycled s r archive log) (refusedCycle number s archive log)) b
+  unfolding withCore
+  either-same number true = done-same
+  either-same number false = refl
+
+  -- with other settings from 17 on a cycle answers and writes the same, counts the same, and leaves those settings in force
+  pub not-in-formulas : wholeB (withSettings s b) ≡ wholeB s → cycleOf (withSettings s b) r archive log ≡ outcomeWith (cycleOf s r archive log) b
+  unfolding cycleOf
+  not-in-formulas w = rw (refusal-same w) (either-same (cycleRefusal s (length archive) (length log) r) (eqb (cycleRefusal s (length archive) (length log) r) 0))
