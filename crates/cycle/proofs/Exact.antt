@@ -27,7 +27,6 @@ use Rattle.state.specs.State.{wholeB, withCore}
 use Rattle.state.proofs.Sound.{whole-sound}
 use Rattle.cycle.specs.declared.Brought.{Brought}
 use Rattle.cycle.specs.Cycle.{naturalAt, wholeAt, coefficientsIn, temperatureFor, pressureFor, kFor, alarmsFor, factorFor, amountsFor, cycleRefusal, cycledCore, Outcome, cycled, cycleOf}
-use Rattle.cycle.proofs.Laws.{refusedCycle}
 
 -- ---- what the settings let a cycle take
 
@@ -133,6 +132,10 @@ withSettings s b =
 abbrev pub outcomeWith : Outcome → List Setting → Outcome
 outcomeWith o b = record { answer = record { number = o .answer .number; state = withSettings (o .answer .state) b }; archive = o .archive; log = o .log }
 
+-- what a refused cycle gives
+abbrev refused : ℕ → State → List ArchiveLine → List LogLine → Outcome
+refused number s archive log = record { answer = record { number = number; state = s }; archive = archive; log = log }
+
 module _ (s : State) (b : List Setting) (same : (k : ℕ) → k < 16 → valueAt (s .core .settings) k ≡ valueAt b k) (r : Brought) (archive : List ArchiveLine) (log : List LogLine) where
   done-same : cycled (withSettings s b) r archive log ≡ outcomeWith (cycled s r archive log) b
   unfolding cycled cycledCore withCore
@@ -142,8 +145,8 @@ module _ (s : State) (b : List Setting) (same : (k : ℕ) → k < 16 → valueAt
   unfolding cycleRefusal withCore
   refusal-same w = rw (w, amounts-same (s .core .settings) b same r)
 
-  either-same : (number : ℕ) (done : Bool) → cond {A = Outcome} done (cycled (withSettings s b) r archive log) (refusedCycle number (withSettings s b) archive log)
-      ≡ outcomeWith (cond {A = Outcome} done (cycled s r archive log) (refusedCycle number s archive log)) b
+  either-same : (number : ℕ) (done : Bool) → cond {A = Outcome} done (cycled (withSettings s b) r archive log) (refused number (withSettings s b) archive log)
+      ≡ outcomeWith (cond {A = Outcome} done (cycled s r archive log) (refused number s archive log)) b
   unfolding withCore
   either-same number true = done-same
   either-same number false = refl

@@ -1,5 +1,5 @@
--- Laws of one measuring cycle, over the definitions: a whole state stays whole, a refusal changes nothing, each present alarm is latched,
--- the main counters stand still in a cycle with an alarm, no amount of a whole device is ever too large, and the stores keep their lengths.
+-- Laws of one measuring cycle, over the definitions: each present alarm is latched, the main counters stand still in a cycle with an alarm,
+-- counters in range stay in range, no amount of a whole device is ever too large, and what the archive and the logbook hold afterwards.
 -- Assumes nothing.
 use mathlib.Core.Path.{_≡_, refl, sym, ap, _∙_}
 use mathlib.Core.Logic.{_≢_}
@@ -9,8 +9,8 @@ use Prim.Native.Nat.{ℕ, _*_, _≤_}
 use native.Mathlib.Omega.{arith}
 use lib.Dec.{T, ltb, leb, eqb}
 use lib.ListN.{length, take}
-use borrow.Author.Tests.{eqb-true, eq-eqb, ne-eqb, lt-ltb, ltb-false, leb-false}
-use Rattle.ground.proofs.Flags.{and-left, and-right, Either, is-true, is-false, either-of}
+use borrow.Author.Tests.{eq-eqb, ltb-false}
+use Rattle.ground.proofs.Flags.{and-left, and-right}
 use Rattle.units.specs.declared.Amounts.{Amounts}
 use Rattle.units.specs.declared.Amounts.the-variants.{TooLarge, Counted}
 use Rattle.units.specs.Units.{litresRollover, baseRollover, litresOf, baseOf, plusLitres, plusBase, mostPulses, pulseLitres}
@@ -23,9 +23,9 @@ use Rattle.calendar.specs.Calendar.{endOfTime, monthOf}
 use Rattle.readings.specs.Kelvin.{kelvinOf}
 use Rattle.ring.specs.Ring.{archiveLines, logLines, ringAfter, FromFresh, advancedRing, advancedBook}
 use Rattle.ring.specs.Store.{written, heldLines}
-use Rattle.ring.proofs.Whole.{ring-from, ring-stays, book-from, book-stays, log-common}
+use Rattle.ring.proofs.Whole.{ring-from, book-from, log-common}
 use Rattle.ring.proofs.Fresh.{book-ring}
-use Rattle.ring.proofs.Stores.{written-length, whole-written}
+use Rattle.ring.proofs.Stores.{whole-written}
 use Rattle.books.specs.declared.ArchiveLine.{ArchiveLine}
 use Rattle.books.specs.declared.LogLine.{LogLine}
 use Rattle.books.specs.Books.{noArchive, noLog}
@@ -37,48 +37,9 @@ use Rattle.state.specs.declared.Core.{Core}
 use Rattle.state.specs.declared.State.{State}
 use Rattle.state.specs.State.{countersB, latchedB, wholeB}
 use Rattle.state.proofs.Card.{not-false}
-use Rattle.state.proofs.Sound.{Sound, SoundCore, whole-sound, sound-whole}
+use Rattle.state.proofs.Sound.{whole-sound}
 use Rattle.cycle.specs.declared.Brought.{Brought}
-use Rattle.cycle.specs.Cycle.{naturalAt, pressureFor, temperatureFor, kFor, alarmsFor, factorFor, amountsFor, isTooLarge, anyAlarm, counted, latchesAfter, changes, monthLines, cycleRefusal, cycledCore, Outcome, cycled, cycleOf}
-use Rattle.cycle.proofs.Join.{Accepted, accepted}
-
--- ---- done or refused
-
-abbrev pub refusedCycle : ℕ → State → List ArchiveLine → List LogLine → Outcome
-refusedCycle number s archive log = record { answer = record { number = number; state = s }; archive = archive; log = log }
-
-module _ (s : State) (r : Brought) (archive : List ArchiveLine) (log : List LogLine) where
-  number-by : (n : ℕ) (done : Bool) → eqb n 0 ≡ done → cond {A = Outcome} done (cycled s r archive log) (refusedCycle n s archive log) .answer .number ≡ n
-  unfolding cycled
-  number-by n true e = sym (eqb-true n 0 e)
-  number-by n false e = refl
-
-  -- the number on the fault card
-  pub cycle-number : cycleOf s r archive log .answer .number ≡ cycleRefusal s (length archive) (length log) r
-  unfolding cycleOf
-  cycle-number = number-by (cycleRefusal s (length archive) (length log) r) (eqb (cycleRefusal s (length archive) (length log) r) 0) refl
-
-  -- where no refusal applies
-  pub cycle-done : cycleRefusal s (length archive) (length log) r ≡ 0 → cycleOf s r archive log ≡ cycled s r archive log
-  unfolding cycleOf
-  cycle-done h = rw (eq-eqb (cycleRefusal s (length archive) (length log) r) 0 h)
-
-  -- a refusal gives its number, and leaves the state and both stores as they were
-  pub cycle-refused : cycleRefusal s (length archive) (length log) r ≢ 0 →
-      cycleOf s r archive log ≡ refusedCycle (cycleRefusal s (length archive) (length log) r) s archive log
-  unfolding cycleOf
-  cycle-refused h = rw (ne-eqb (cycleRefusal s (length archive) (length log) r) 0 h)
-
-  -- the stores keep their lengths
-  lengths-by : (n : ℕ) (done : Bool) → (length (cond {A = Outcome} done (cycled s r archive log) (refusedCycle n s archive log) .archive) ≡ length archive)
-      × (length (cond {A = Outcome} done (cycled s r archive log) (refusedCycle n s archive log) .log) ≡ length log)
-  unfolding cycled
-  lengths-by n true = (written-length archiveLines (s .core .archive) archive _, written-length logLines (s .core .log .ring) log _)
-  lengths-by n false = (refl, refl)
-
-  pub cycle-lengths : (length (cycleOf s r archive log .archive) ≡ length archive) × (length (cycleOf s r archive log .log) ≡ length log)
-  unfolding cycleOf
-  cycle-lengths = lengths-by (cycleRefusal s (length archive) (length log) r) (eqb (cycleRefusal s (length archive) (length log) r) 0)
+use Rattle.cycle.specs.Cycle.{naturalAt, pressureFor, temperatureFor, kFor, alarmsFor, factorFor, amountsFor, isTooLarge, anyAlarm, counted, latchesAfter, changes, monthLines, cycleRefusal, cycledCore, cycled}
 
 -- ---- alarms and latches
 
@@ -148,41 +109,6 @@ counters-stay c false (Counted v b) e =
 counters-stay c true (Counted v b) e =
     let h = in-range c e in
     rw (h .vm, litres-in-range (c .vmd) v, h .vb, base-in-range (c .vbd) b)
-
--- ---- a whole state stays whole
-
-pub cycled-whole : (s : State) (r : Brought) (archive : List ArchiveLine) (log : List LogLine) → Accepted s (length archive) (length log) (r .time) →
-    wholeB (cycled s r archive log .answer .state) ≡ true
-unfolding cycled cycledCore
-cycled-whole s r archive log a =
-    let p : Sound s = whole-sound s (a .whole) in
-    let c : SoundCore (s .core) = p .core in
-    let found : Alarms = alarmsFor (s .core .settings) r in
-    sound-whole (cycled s r archive log .answer .state) (record {
-      core = record {
-        in-time = lt-ltb (r .time) endOfTime (leb-false endOfTime (r .time) (a .in-time));
-        fit = c .fit;
-        ordered = c .ordered;
-        counted = counters-stay (s .core .counters) (anyAlarm found) (amountsFor (s .core .settings) r) (c .counted);
-        latched = latches-hold (s .core .latches) found;
-        in-month = eq-eqb (monthOf (r .time)) (monthOf (r .time)) refl;
-        archive-held = ring-stays archiveLines _ (s .core .archive) (omega arith) (c .archive-held);
-        log-held = book-stays log-common _ (s .core .log) (c .log-held);
-        audit-held = c .audit-held;
-      };
-      keypad = p .keypad;
-      port = p .port;
-    })
-
-whole-by : (s : State) (r : Brought) (archive : List ArchiveLine) (log : List LogLine) → wholeB s ≡ true →
-    Either (eqb (cycleRefusal s (length archive) (length log) r) 0) → wholeB (cycleOf s r archive log .answer .state) ≡ true
-unfolding cycleOf
-whole-by s r archive log e (is-true t) = rw t (cycled-whole s r archive log (accepted s (length archive) (length log) r (eqb-true _ 0 t)))
-whole-by s r archive log e (is-false f) = rw f e
-
-pub cycle-whole : (s : State) (r : Brought) (archive : List ArchiveLine) (log : List LogLine) → wholeB s ≡ true →
-    wholeB (cycleOf s r archive log .answer .state) ≡ true
-cycle-whole s r archive log e = whole-by s r archive log e (either-of (eqb (cycleRefusal s (length archive) (length log) r) 0))
 
 -- ---- the amounts of a whole device
 

@@ -1,19 +1,16 @@
--- What the factor keeps of the exact fraction p·Tb·10^9 / (pb·T·K), how small and how large it gets, and three cases by hand.
+-- What the factor keeps of the exact fraction p·Tb·10^9 / (pb·T·K), and how large it gets.
 -- Assumes nothing.
 use mathlib.Core.Path.{_≡_, refl}
 use mathlib.Core.Bool.{true, false}
 use Prim.Native.Nat.{ℕ, _+_, _*_, _≤_, _<_}
-use native.Mathlib.Nat.{add-mul, div-lt-iff-lt-mul, le-div-iff-mul-le}
+use native.Mathlib.Nat.{add-mul, div-lt-iff-lt-mul}
 use native.Mathlib.Omega.{arith}
 use Rattle.ground.proofs.Flags.{Either, is-true, is-false, either-of}
 use Rattle.factor.specs.Factor.{numerator, denominator, nearestFraction, factorOf, inRange, inRanges, factorTaken}
 use Rattle.factor.proofs.Division.{half-unit, nearest-only, halves-up}
 use Rattle.factor.proofs.Ranges.{products}
 
--- the ends that the ranges set to the factor; both are reached
-abbrev pub leastFactor : ℕ
-leastFactor = 2624
-
+-- the most that the ranges let the factor be
 abbrev pub mostFactor : ℕ
 mostFactor = 38264831
 
@@ -45,14 +42,6 @@ module _ (p tb pb t k : ℕ) where
   unfolding factorOf
   factor-only f a b = nearest-only (numerator p tb) (denominator pb t k) f a b
 
-  -- the least and the most that the ranges let it be
-  pub factor-least : inRanges p tb pb t k ≡ true → leastFactor ≤ factorOf p tb pb t k
-  unfolding factorOf nearestFraction
-  factor-least e =
-      let r = products p tb pb t k e in
-      let o : 0 < 2 * denominator pb t k = omega arith in
-      le-div-iff-mul-le o .1 (omega arith)
-
   pub factor-most : inRanges p tb pb t k ≡ true → factorOf p tb pb t k ≤ mostFactor
   unfolding factorOf nearestFraction
   factor-most e =
@@ -69,23 +58,7 @@ module _ (p tb pb t k : ℕ) where
       most (is-true e) = rw (taken e) (factor-most e)
       most (is-false e) = rw (not-taken e) (omega arith)
 
-pub least-reached : factorTaken 10000 27315 110000 47315 20000 ≡ leastFactor
-unfolding factorTaken inRanges inRange factorOf nearestFraction
-least-reached = refl
-
+-- and there is a factor that large
 pub most-reached : factorTaken 10000000 29815 90000 17315 5000 ≡ mostFactor
 unfolding factorTaken inRanges inRange factorOf nearestFraction
 most-reached = refl
-
--- cases by hand: p = pb, T = Tb, K = 1; twice the pressure at 20.00 °C; a half
-pub case-1 : factorTaken 101325 27315 101325 27315 10000 ≡ 100000
-unfolding factorTaken inRanges inRange factorOf nearestFraction
-case-1 = refl
-
-pub case-2 : factorTaken 202650 27315 101325 29315 10000 ≡ 186355
-unfolding factorTaken inRanges inRange factorOf nearestFraction
-case-2 = refl
-
-pub case-3 : factorTaken 100001 27315 100000 27315 20000 ≡ 50001
-unfolding factorTaken inRanges inRange factorOf nearestFraction
-case-3 = refl

@@ -1,36 +1,31 @@
--- What the definitions of the settings give: the factory settings fit and are in order, a value put in its place keeps what fits, and
--- of settings that fit each value is of its row's kind and in its row's range.
+-- What the definitions of the settings give: the factory settings fit and are in order, and of settings that fit each number that the
+-- formulas take is in its row's range.
 -- Assumes nothing.
-use mathlib.Core.Path.{_≡_, refl, sym, ap, _∙_}
+use mathlib.Core.Path.{_≡_, refl, sym, _∙_}
 use mathlib.Core.Bool.{Bool, true, false, not, true≢false}
 use mathlib.Core.List.{List}
 use Prim.Native.Nat.{ℕ, _≤_, _<_}
 use native.Mathlib.Omega.{arith}
-use lib.Dec.{ltb, eqb}
+use lib.Dec.{ltb}
 use lib.IntN.{ℤ, pos, negsuc, negℤ}
-use lib.ListN.{length, set}
-use lib.Seq.{getD-set-same, getD-set-other, set-out}
+use lib.ListN.{length}
 use lib.Signed.{ltZ}
-use borrow.Author.Tests.{ltb-true, ltb-false, eqb-true, eqb-false, not-true}
+use borrow.Author.Tests.{ltb-false, not-true}
 use Rattle.ground.specs.Below.{allBelow}
-use Rattle.ground.proofs.Every.{all-each, each-all}
+use Rattle.ground.proofs.Every.{all-each}
 use Rattle.ground.proofs.Flags.{and-left, and-right, of-T}
 use Rattle.ground.proofs.Table.{at}
 use Rattle.settings.specs.declared.Value.{Value}
 use Rattle.settings.specs.declared.Value.the-variants.{Whole, Coefficient}
 use Rattle.settings.specs.declared.Setting.{Setting}
 use Rattle.settings.specs.declared.Row.{Row}
-use Rattle.settings.specs.Settings.{settingCount, rows, noRow, rowOf, isFinite, withinB, fitsRow, fitsB, factoryOf, factorySettings, noSetting, valueAt, wholeOf, naturalOf, coefficientOf, fitsAt, settingsFitB, inOrder, orderedB, cp, pb, tb, pMin, pMax, tMin, tMax, eq1, eq2, eq3, pF, tF, kF}
+use Rattle.settings.specs.Settings.{settingCount, rows, noRow, rowOf, isFinite, withinB, fitsRow, fitsB, factoryOf, factorySettings, valueAt, wholeOf, naturalOf, fitsAt, settingsFitB, inOrder, orderedB, cp, pb, tb, pMin, pMax, pF, tF, kF}
 
 -- ---- the table and the factory settings
 
 pub rows-length : length rows ≡ settingCount
 unfolding rows
 rows-length = refl
-
-pub factory-length : length factorySettings ≡ settingCount
-unfolding factorySettings rows
-factory-length = refl
 
 -- one test over the table: each factory value fits its row
 fits-its-row : ℕ → Row → Bool
@@ -54,23 +49,6 @@ pub fits-at : (a : List Setting) → settingsFitB a ≡ true → (k : ℕ) → k
 unfolding settingsFitB fitsAt
 fits-at a e k l = all-each (fitsAt a) settingCount e k l
 
-pub all-fit : (a : List Setting) → ((k : ℕ) → k < settingCount → fitsB k (valueAt a k) ≡ true) → settingsFitB a ≡ true
-unfolding settingsFitB fitsAt
-all-fit a f = each-all (fitsAt a) settingCount f
-
--- a value that fits, put in its place, keeps what fits
-after-put : (a : List Setting) (k : ℕ) (x : Setting) (j : ℕ) → fitsB k (x .value) ≡ true → fitsB j (valueAt a j) ≡ true
-    → (same : Bool) → eqb j k ≡ same → (inside : Bool) → ltb k (length a) ≡ inside → fitsB j (valueAt (set a k x) j) ≡ true
-after-put a k x j p q false e inside f = ap (λ (y : Setting). fitsB j (y .value)) (getD-set-other a k j x noSetting (eqb-false j k e)) ∙ q
-after-put a k x j p q true e false f = ap (λ (l : List Setting). fitsB j (valueAt l j)) (set-out a k x (ltb-false k (length a) f)) ∙ q
-after-put a k x j p q true e true f =
-    ap (λ (i : ℕ). fitsB i (valueAt (set a k x) i)) (eqb-true j k e)
-    ∙ ap (λ (y : Setting). fitsB k (y .value)) (getD-set-same a k x noSetting (ltb-true k (length a) f))
-    ∙ p
-
-pub put-fits : (a : List Setting) (k : ℕ) (x : Setting) → settingsFitB a ≡ true → fitsB k (x .value) ≡ true → settingsFitB (set a k x) ≡ true
-put-fits a k x e p = all-fit (set a k x) (λ j l. after-put a k x j p (fits-at a e j l) (eqb j k) refl (ltb k (length a)) refl)
-
 -- a whole number in the range of its row
 pub record WholeIn (low high : ℤ) (v : Value) : Type 0 where
   pub is : v ≡ Whole (wholeOf v)
@@ -83,10 +61,6 @@ pub record NaturalIn (low high : ℕ) (v : Value) : Type 0 where
   pub from : low ≤ naturalOf v
   pub upto : naturalOf v ≤ high
 
-pub record FloatIn (v : Value) : Type 0 where
-  pub is : v ≡ Coefficient (coefficientOf v)
-  pub finite : isFinite (coefficientOf v) ≡ true
-
 whole-row : (r : Row) (v : Value) → r .coefficient ≡ false → fitsRow r v ≡ true → WholeIn (r .lowest) (r .highest) v
 unfolding fitsRow withinB
 whole-row r (Whole n) k e =
@@ -98,18 +72,9 @@ whole-row r (Whole n) k e =
     }
 whole-row r (Coefficient f) k e = absurd (true≢false (sym (and-left (r .coefficient) (isFinite f) e) ∙ k))
 
-float-row : (r : Row) (v : Value) → r .coefficient ≡ true → fitsRow r v ≡ true → FloatIn v
-unfolding fitsRow
-float-row r (Whole n) k e = absurd (true≢false (sym k ∙ not-true (r .coefficient) (and-left (not (r .coefficient)) (withinB (r .lowest) (r .highest) n) e)))
-float-row r (Coefficient f) k e = record { is = refl; finite = and-right (r .coefficient) (isFinite f) e }
-
 pub whole-in : (k : ℕ) (v : Value) → rowOf k .coefficient ≡ false → fitsB k v ≡ true → WholeIn (rowOf k .lowest) (rowOf k .highest) v
 unfolding fitsB
 whole-in k v c e = whole-row (rowOf k) v c (and-right (ltb k settingCount) (fitsRow (rowOf k) v) e)
-
-pub float-in : (k : ℕ) (v : Value) → rowOf k .coefficient ≡ true → fitsB k v ≡ true → FloatIn v
-unfolding fitsB
-float-in k v c e = float-row (rowOf k) v c (and-right (ltb k settingCount) (fitsRow (rowOf k) v) e)
 
 pub natural-in : (low high : ℕ) (v : Value) → WholeIn (pos low) (pos high) v → NaturalIn low high v
 natural-in low high (Whole (pos n)) w = record { is = refl; from = ltb-false n low (w .from); upto = ltb-false high n (w .upto) }
@@ -123,9 +88,6 @@ module _ (a : List Setting) (e : settingsFitB a ≡ true) where
 
   pub natural-at : (k low high : ℕ) → k < settingCount → rowOf k .coefficient ≡ false → rowOf k .lowest ≡ pos low → rowOf k .highest ≡ pos high → NaturalIn low high (valueAt a k)
   natural-at k low high l c p q = natural-in low high (valueAt a k) (rw (p, q) at (whole-at k l c))
-
-  pub float-at : (k : ℕ) → k < settingCount → rowOf k .coefficient ≡ true → FloatIn (valueAt a k)
-  float-at k l c = float-in k (valueAt a k) c (fits-at a e k l)
 
   pub cp-in : NaturalIn 0 4 (valueAt a cp)
   unfolding rowOf rows
@@ -146,26 +108,6 @@ module _ (a : List Setting) (e : settingsFitB a ≡ true) where
   pub p-max-in : NaturalIn 10000 10000000 (valueAt a pMax)
   unfolding rowOf rows
   p-max-in = natural-at pMax 10000 10000000 (omega arith) refl refl refl
-
-  pub t-min-in : WholeIn (negℤ (pos 10000)) (pos 20000) (valueAt a tMin)
-  unfolding rowOf rows
-  t-min-in = whole-at tMin (omega arith) refl
-
-  pub t-max-in : WholeIn (negℤ (pos 10000)) (pos 20000) (valueAt a tMax)
-  unfolding rowOf rows
-  t-max-in = whole-at tMax (omega arith) refl
-
-  pub eq1-in : FloatIn (valueAt a eq1)
-  unfolding rowOf rows
-  eq1-in = float-at eq1 (omega arith) refl
-
-  pub eq2-in : FloatIn (valueAt a eq2)
-  unfolding rowOf rows
-  eq2-in = float-at eq2 (omega arith) refl
-
-  pub eq3-in : FloatIn (valueAt a eq3)
-  unfolding rowOf rows
-  eq3-in = float-at eq3 (omega arith) refl
 
   pub p-f-in : NaturalIn 10000 10000000 (valueAt a pF)
   unfolding rowOf rows

@@ -1,4 +1,5 @@
--- Cases of document 01, computed from the definitions: H6, the temperature of H4, and the slip "adding 0.5 in floats".
+-- Cases of document 01, computed from the definitions: H6, the temperature of H4, the slip "adding 0.5 in floats", the ends of the range, and
+-- a case in which results are rounded.
 -- A float is `fin s m e`, which is ± m · 2^e, or `ofBits binary64` of its bits.
 -- Assumes nothing.
 use mathlib.Core.Path.{_≡_, refl}
@@ -71,7 +72,7 @@ pub twenty-degrees : nearestOf (equationOf factory 7680) ≡ Hundredths (pos 200
 unfolding nearestOf equationOf add mul ofInt ofBits
 twenty-degrees = refl
 
--- coefficients at which each operation rounds: -40.1, 0.0078 and 10^-9, and raw 7,731
+-- coefficients at which four of the six results are rounded: -40.1, 0.0078 and 10^-9, and raw 7,731
 abbrev uneven : Coefficients
 uneven = record { eq1 = ofBits binary64 0xc044_0ccc_cccc_cccd; eq2 = ofBits binary64 0x3f7f_f2e4_8e8a_71de; eq3 = ofBits binary64 0x3e11_2e0b_e826_d695 }
 
