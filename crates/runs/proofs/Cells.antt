@@ -53,7 +53,7 @@ stale-set l i x e =
 
 -- ---- the other door's commit
 
-overtaken-length : (s t : List Cell) → length (overtakenBy s t) ≡ length t
+pub overtaken-length : (s t : List Cell) → length (overtakenBy s t) ≡ length t
 unfolding overtakenBy
 overtaken-length [] t = refl
 overtaken-length (c ∷ s) [] = refl

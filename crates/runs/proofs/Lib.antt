@@ -11,3 +11,4 @@ pub mod Lines
 pub mod Numbers
 pub mod Crossed
 pub mod Fixed
+pub mod Stale

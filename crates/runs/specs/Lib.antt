@@ -4,3 +4,4 @@ pub mod Exactly
 pub mod Rows
 pub mod Sums
 pub mod Lines
+pub mod Stale
