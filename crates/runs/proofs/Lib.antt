@@ -12,3 +12,4 @@ pub mod Numbers
 pub mod Crossed
 pub mod Fixed
 pub mod Stale
+pub mod Times

@@ -33,7 +33,8 @@ use Rattle.doors.proofs.Force.{marks-at}
 use Rattle.runs.specs.Exactly.{earlier}
 use Rattle.runs.specs.Rows.{rowsOf, unsound, refusedBy}
 use Rattle.runs.specs.Run.{Step, cycle, openLock, shutLock, clear, report, archiveLine, logLine, auditLine, begin, abandon, commit, read, write, World, Reply, numberOf, step, corrector, started}
-use Rattle.runs.specs.Stale.{History, history, Deed, nothing, begins, commits, reads, writes, deed, beginsAt, commitsAt, readsAt, writesAt, hasRead, hasStaged, otherDoor, overtakenIn, stale}
+use Rattle.runs.specs.History.{History, history}
+use Rattle.runs.specs.Stale.{Deed, nothing, begins, commits, reads, writes, deed, beginsAt, commitsAt, readsAt, writesAt, hasRead, hasStaged, otherDoor, overtakenIn, stale}
 use Rattle.runs.proofs.Exactly.{silent}
 use Rattle.runs.proofs.Cells.{at-set, overtaken-length}
 use Rattle.runs.proofs.Effects.{after, number-is, world-is, refused-exactly}

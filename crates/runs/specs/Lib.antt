@@ -4,4 +4,5 @@ pub mod Exactly
 pub mod Rows
 pub mod Sums
 pub mod Lines
+pub mod History
 pub mod Stale

@@ -3,22 +3,14 @@
 -- Assumes nothing.
 use Prim.Native.Nat.{ℕ, _+_}
 use mathlib.Core.Bool.{Bool, false, cond, _&&_, _||_}
-use mathlib.Core.List.{List, [], _∷_, reverse}
+use mathlib.Core.List.{[], _∷_}
 use lib.Dec.{eqb}
 use Rattle.ground.specs.Below.{anyBelow}
-use Rattle.order.specs.Order.{trace}
 use Rattle.settings.specs.Settings.{settingCount}
-use Rattle.runs.specs.Run.{Step, cycle, openLock, shutLock, clear, report, archiveLine, logLine, auditLine, begin, abandon, commit, read, write, World, Reply, numberOf, corrector}
+use Rattle.runs.specs.Run.{Step, cycle, openLock, shutLock, clear, report, archiveLine, logLine, auditLine, begin, abandon, commit, read, write, Reply}
+use Rattle.runs.specs.History.{History, done}
 
--- ---- what happened
-
--- steps with the answers that they had, newest first
-abbrev pub History : Type 0
-History = List (Step × Reply)
-
--- what a run from w did
-abbrev pub history : List Step → World → History
-history xs w = reverse (trace corrector xs w)
+-- ---- what was done
 
 -- the steps that bear on it: door, then setting
 pub data Deed : Type 0 where
@@ -43,7 +35,7 @@ deedOf (write door setting v) = writes door setting
 
 -- a step that was refused did nothing
 abbrev pub deed : Step × Reply → Deed
-deed x = cond (eqb (numberOf (x .1)) 0) (deedOf (x .0)) nothing
+deed x = cond (done x) (deedOf (x .0)) nothing
 
 abbrev pub beginsAt : ℕ → Deed → Bool
 beginsAt door nothing = false
