@@ -17,15 +17,17 @@ use Rattle.settings.specs.declared.Value.{Value}
 use Rattle.settings.specs.declared.Value.the-variants.{Whole}
 use Rattle.settings.specs.Settings.{settingCount}
 use Rattle.ring.specs.Ring.{auditLines}
-use Rattle.ring.specs.Store.{written}
+use Rattle.ring.specs.Store.{written, heldLines}
 use Rattle.books.specs.declared.AuditLine.{AuditLine}
+use Rattle.books.specs.Books.{noAudit}
 use Rattle.state.specs.declared.Cell.{Cell}
 use Rattle.state.specs.declared.Session.{Session}
 use Rattle.state.specs.declared.Core.{Core}
 use Rattle.state.specs.declared.State.{State}
 use Rattle.state.specs.State.{blankCell, noSession, wholeB}
 use Rattle.state.proofs.Card.{passes, not-false}
-use Rattle.doors.specs.Doors.{sessionAt, otherAt, placed, withSession, cellAt, withCell, begun, beginRefusal, beginOf, abandonRefusal, abandonOf, readRefusal, markedRead, readAfter, readOf, writeRefusal, stagedCell, writeAfter, writeOf, commitRefusal, commitLines, committed, refusedCommit, commitOf}
+use Rattle.asked.proofs.Laws.{line-read}
+use Rattle.doors.specs.Doors.{sessionAt, otherAt, placed, withSession, cellAt, withCell, begun, beginRefusal, beginOf, abandonRefusal, abandonOf, readRefusal, markedRead, readAfter, readOf, writeRefusal, stagedCell, writeAfter, writeOf, commitRefusal, commitLines, committed, refusedCommit, commitOf, auditAnswered, auditLineOf}
 use Rattle.doors.proofs.Stays.{read-accepted, write-accepted, begin-whole, abandon-whole, read-whole, write-whole}
 
 -- ---- refusals
@@ -258,3 +260,11 @@ past-first false rest h = refl
 pub ended-knows : (s : State) (door n : ℕ) → 10 ≤ commitRefusal s door n → wholeB s ≡ true
 unfolding commitRefusal
 ended-knows s door n h = and-left (wholeB s) (eqb n auditLines) (not-false (wholeB s && eqb n auditLines) (past-first (not (wholeB s && eqb n auditLines)) _ h))
+
+-- ---- a line of the audit trail
+
+-- a line that is given is line i of those held, newest first
+pub audit-line-held : (s : State) (i : ℕ) (audit : List AuditLine) → auditLineOf s i audit .number ≡ 0
+    → auditLineOf s i audit .line ≡ getD (heldLines auditLines noAudit (s .core .audit .ring) audit) i noAudit
+unfolding auditLineOf auditAnswered
+audit-line-held s i audit e = rw e (line-read noAudit s auditLines (length audit) (s .core .audit .ring) i audit e)
