@@ -13,3 +13,4 @@ pub mod Crossed
 pub mod Fixed
 pub mod Stale
 pub mod Times
+pub mod Latches

@@ -6,3 +6,4 @@ pub mod Sums
 pub mod Lines
 pub mod History
 pub mod Stale
+pub mod Latches
