@@ -7,6 +7,7 @@ pub mod Calls
 pub mod Sessions
 pub mod Effects
 pub mod Sums
+pub mod Totals
 pub mod Lines
 pub mod Numbers
 pub mod Crossed

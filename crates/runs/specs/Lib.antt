@@ -1,4 +1,4 @@
--- Runs of the corrector, what they put on the counters and into the stores, and what the fault card says exactly.
+-- Runs of the corrector: what they put on the counters and into the stores, what the fault card says exactly, and what their history says.
 pub mod Run
 pub mod Exactly
 pub mod Rows

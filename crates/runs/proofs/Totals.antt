@@ -1,0 +1,54 @@
+-- The totals of a report: after any run from a start, VmT and VbT show, under the rollover, the sum of what the accepted cycles put on the main
+-- and on the disturbed counter.
+-- Assumes nothing.
+use mathlib.Core.Path.{_≡_}
+use mathlib.Core.List.{List}
+use Prim.Native.Nat.{ℕ, _+_, _%_}
+use Rattle.order.specs.Order.{run}
+use Rattle.units.specs.declared.Litres.{Litres}
+use Rattle.units.specs.declared.BaseUnits.{BaseUnits}
+use Rattle.units.specs.Units.{litresRollover, baseRollover, litresShown, baseShown}
+use Rattle.books.specs.declared.ArchiveLine.{ArchiveLine}
+use Rattle.books.specs.declared.LogLine.{LogLine}
+use Rattle.books.specs.declared.AuditLine.{AuditLine}
+use Rattle.panel.specs.Panel.{reported, reportRefusal, reportOf}
+use Rattle.panel.proofs.Laws.{total-litres, total-base}
+use Rattle.runs.specs.Run.{Step, report, World, moment, step, corrector, started}
+use Rattle.runs.specs.Sums.{Vm, VmD, Vb, VbD, sumOn}
+use Rattle.runs.proofs.Keeps.{always-whole}
+use Rattle.runs.proofs.Sums.{sums}
+
+-- a counter by what it shows
+litres-shown : (v : Litres) (s : ℕ) → v .0 ≡ s % litresRollover → v ≡ litresShown s
+unfolding litresShown
+litres-shown v s e = λ i. record { 0 = e i }
+
+base-shown : (v : BaseUnits) (s : ℕ) → v .0 ≡ s % baseRollover → v ≡ baseShown s
+unfolding baseShown
+base-shown v s e = λ i. record { 0 = e i }
+
+module _ (xs : List Step) (time supcode custcode : ℕ) (archive : List ArchiveLine) (log : List LogLine) (audit : List AuditLine) where
+  abbrev start : World
+  start = started time supcode custcode archive log audit
+
+  abbrev end : World
+  end = (run corrector xs start) .1
+
+  -- a report after a run is given
+  pub report-given : (step report end) .1 ≡ moment 0 (reported (end .state .core))
+  unfolding reportOf reportRefusal
+  report-given = rw (always-whole xs time supcode custcode archive log audit)
+
+  -- ITS VmT IS THE SUM OF BOTH COUNTERS' SUMS, under the rollover
+  pub total-measured : reported (end .state .core) .vmt ≡ litresShown (sumOn Vm xs start + sumOn VmD xs start)
+  total-measured =
+      total-litres (end .state .core) (sumOn Vm xs start) (sumOn VmD xs start)
+      (litres-shown (end .state .core .counters .vm) (sumOn Vm xs start) (sums Vm xs time supcode custcode archive log audit))
+      (litres-shown (end .state .core .counters .vmd) (sumOn VmD xs start) (sums VmD xs time supcode custcode archive log audit))
+
+  -- AND ITS VbT
+  pub total-at-base : reported (end .state .core) .vbt ≡ baseShown (sumOn Vb xs start + sumOn VbD xs start)
+  total-at-base =
+      total-base (end .state .core) (sumOn Vb xs start) (sumOn VbD xs start)
+      (base-shown (end .state .core .counters .vb) (sumOn Vb xs start) (sums Vb xs time supcode custcode archive log audit))
+      (base-shown (end .state .core .counters .vbd) (sumOn VbD xs start) (sums VbD xs time supcode custcode archive log audit))
