@@ -9,6 +9,7 @@ pub mod Effects
 pub mod Sums
 pub mod Totals
 pub mod Lines
+pub mod Newest
 pub mod Numbers
 pub mod Crossed
 pub mod Fixed
