@@ -32,14 +32,6 @@ session-by s door (is-false f) = rw f
 pub session-other : (s : State) (door : ℕ) → sessionAt s (otherDoor door) ≡ otherAt s door
 session-other s door = session-by s door (either-of (eqb door 1))
 
-other-by : (s : State) (door : ℕ) → Either (eqb door 1) → otherAt s (otherDoor door) ≡ sessionAt s door
-unfolding sessionAt otherAt
-other-by s door (is-true t) = rw t
-other-by s door (is-false f) = rw f
-
-pub other-other : (s : State) (door : ℕ) → otherAt s (otherDoor door) ≡ sessionAt s door
-other-other s door = other-by s door (either-of (eqb door 1))
-
 module _ {door : ℕ} {s t : State} (p : Beside door s t) where
   same-session : sessionAt t (otherDoor door) ≡ sessionAt s (otherDoor door)
   same-session = session-other t door ∙ p .other ∙ sym (session-other s door)

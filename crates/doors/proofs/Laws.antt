@@ -1,20 +1,17 @@
--- What the steps of a session leave alone: a refusal changes nothing (10, 11 and 12 at a commit end the session), begin, read, write and
--- abandon change nothing of the core nor of the other door's session, and what was read stays read.
+-- What the steps of a session leave alone: a commit refused by 10, 11 or 12 ends the session, and any other refusal leaves it; begin, read,
+-- write and abandon change nothing of the core nor of the other door's session; what was read stays read. And a line of the audit trail.
 -- Assumes nothing.
 use mathlib.Core.Path.{_≡_, refl, sym, _∙_}
-use mathlib.Core.Logic.{_≢_}
 use mathlib.Core.Bool.{Bool, true, false, not, cond, _&&_}
 use mathlib.Core.List.{List}
 use Prim.Native.Nat.{ℕ, _-_, _≤_, _<_}
 use native.Mathlib.Omega.{arith}
 use lib.Dec.{ltb, eqb}
-use lib.IntN.{pos}
 use lib.ListN.{length, getD, set}
 use lib.Seq.{getD-set-same, getD-set-other, set-out}
-use borrow.Author.Tests.{ltb-true, ltb-false, eqb-true, eqb-false, eq-eqb, ne-eqb, le-leb, lt-leb}
+use borrow.Author.Tests.{ltb-true, ltb-false, eqb-true, eqb-false, eq-eqb, le-leb, lt-leb}
 use Rattle.ground.proofs.Flags.{Either, is-true, is-false, either-of, and-left}
 use Rattle.settings.specs.declared.Value.{Value}
-use Rattle.settings.specs.declared.Value.the-variants.{Whole}
 use Rattle.settings.specs.Settings.{settingCount}
 use Rattle.ring.specs.Ring.{auditLines}
 use Rattle.ring.specs.Store.{written, heldLines}
@@ -30,24 +27,7 @@ use Rattle.asked.proofs.Laws.{line-read}
 use Rattle.doors.specs.Doors.{sessionAt, otherAt, placed, withSession, cellAt, withCell, begun, beginRefusal, beginOf, abandonRefusal, abandonOf, readRefusal, markedRead, readAfter, readOf, writeRefusal, stagedCell, writeAfter, writeOf, commitRefusal, commitLines, committed, refusedCommit, commitOf, auditAnswered, auditLineOf}
 use Rattle.doors.proofs.Stays.{read-accepted, write-accepted, begin-whole, abandon-whole, read-whole, write-whole}
 
--- ---- refusals
-
-pub begin-refused : (s : State) (door : ℕ) → beginOf s door .number ≢ 0 → beginOf s door .state ≡ s
-unfolding beginOf
-begin-refused s door h = rw (ne-eqb (beginRefusal s door) 0 h)
-
-pub abandon-refused : (s : State) (door : ℕ) → abandonOf s door .number ≢ 0 → abandonOf s door .state ≡ s
-unfolding abandonOf
-abandon-refused s door h = rw (ne-eqb (abandonRefusal s door) 0 h)
-
-pub read-refused : (s : State) (door setting : ℕ) → readOf s door setting .number ≢ 0 →
-    (readOf s door setting .state ≡ s) × (readOf s door setting .value ≡ Whole (pos 0))
-unfolding readOf
-read-refused s door setting h = (rw (ne-eqb (readRefusal s door setting) 0 h), rw (ne-eqb (readRefusal s door setting) 0 h))
-
-pub write-refused : (s : State) (door setting : ℕ) (v : Value) → writeOf s door setting v .number ≢ 0 → writeOf s door setting v .state ≡ s
-unfolding writeOf
-write-refused s door setting v h = rw (ne-eqb (writeRefusal s door setting v) 0 h)
+-- ---- a commit, done or refused
 
 number-by : (s : State) (door : ℕ) (l : List AuditLine) → Either (eqb (commitRefusal s door (length l)) 0) →
     commitOf s door l .answer .number ≡ commitRefusal s door (length l)
@@ -57,16 +37,6 @@ number-by s door l (is-false f) = rw f
 
 pub commit-number : (s : State) (door : ℕ) (l : List AuditLine) → commitOf s door l .answer .number ≡ commitRefusal s door (length l)
 commit-number s door l = number-by s door l (either-of (eqb (commitRefusal s door (length l)) 0))
-
-refused-by : (s : State) (door : ℕ) (l : List AuditLine) → eqb (commitRefusal s door (length l)) 0 ≡ false →
-    (commitOf s door l .answer .state ≡ refusedCommit s door (commitOf s door l .answer .number)) × (commitOf s door l .audit ≡ l)
-unfolding commitOf
-refused-by s door l f = (rw f, rw f)
-
--- 1, 3 and 4 leave the state as it was; 10, 11 and 12 end the session; each of them leaves the audit trail
-pub commit-refused : (s : State) (door : ℕ) (l : List AuditLine) → commitOf s door l .answer .number ≢ 0 →
-    (commitOf s door l .answer .state ≡ refusedCommit s door (commitOf s door l .answer .number)) × (commitOf s door l .audit ≡ l)
-commit-refused s door l h = refused-by s door l (ne-eqb (commitRefusal s door (length l)) 0 (λ z. h (commit-number s door l ∙ z)))
 
 pub refused-kept : (s : State) (door number : ℕ) → number < 10 → refusedCommit s door number ≡ s
 unfolding refusedCommit
@@ -202,21 +172,7 @@ write-keeps-marks s door setting v =
     chosen-keeps (λ c. c .overtaken) (eqb (writeRefusal s door setting v) 0) s door (withCell (sessionAt s door) setting (stagedCell (cellAt (sessionAt s door) setting) v))
     (put-keeps (λ c. c .overtaken) (sessionAt s door) setting (stagedCell (cellAt (sessionAt s door) setting) v) refl)
 
--- a read stages nothing and takes nothing staged back, nor a mark
-pub read-keeps-staged : (s : State) (door setting k : ℕ) →
-    getD (sessionAt (readOf s door setting .state) door .cells) k blankCell .staged ≡ getD (sessionAt s door .cells) k blankCell .staged
-unfolding readOf readAfter markedRead
-read-keeps-staged s door setting =
-    chosen-keeps (λ c. c .staged) (eqb (readRefusal s door setting) 0) s door (withCell (sessionAt s door) setting (markedRead (cellAt (sessionAt s door) setting)))
-    (put-keeps (λ c. c .staged) (sessionAt s door) setting (markedRead (cellAt (sessionAt s door) setting)) refl)
-
-pub read-keeps-values : (s : State) (door setting k : ℕ) →
-    getD (sessionAt (readOf s door setting .state) door .cells) k blankCell .value ≡ getD (sessionAt s door .cells) k blankCell .value
-unfolding readOf readAfter markedRead
-read-keeps-values s door setting =
-    chosen-keeps (λ c. c .value) (eqb (readRefusal s door setting) 0) s door (withCell (sessionAt s door) setting (markedRead (cellAt (sessionAt s door) setting)))
-    (put-keeps (λ c. c .value) (sessionAt s door) setting (markedRead (cellAt (sessionAt s door) setting)) refl)
-
+-- nor does a read take a mark back
 pub read-keeps-marks : (s : State) (door setting k : ℕ) →
     getD (sessionAt (readOf s door setting .state) door .cells) k blankCell .overtaken ≡ getD (sessionAt s door .cells) k blankCell .overtaken
 unfolding readOf readAfter markedRead

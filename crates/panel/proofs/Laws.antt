@@ -1,5 +1,5 @@
--- Laws of the panel's commands, over the definitions: a whole state stays whole, a refusal changes nothing, Clear drops exactly the latches
--- of alarms not present, totals count under the rollover, and a lock turned to where it stands leaves everything as it was.
+-- Laws of the panel's commands, over the definitions: a whole state stays whole, Clear drops exactly the latches of alarms not
+-- present, totals count under the rollover, and a lock turned to where it stands leaves everything as it was.
 -- Assumes nothing.
 use mathlib.Core.Path.{_≡_, refl, sym, ap, _∙_}
 use mathlib.Core.Bool.{Bool, true, false, not, cond, _&&_, _||_, true≢false, and-true, and-false}
@@ -11,8 +11,8 @@ use lib.Dec.{ltb, leb, eqb}
 use lib.ListN.{length, getD}
 use borrow.Author.Tests.{ltb-false, lt-leb, le-leb, leb-false}
 use Rattle.ground.proofs.Flags.{or-false-right, Either, is-true, is-false, either-of}
-use Rattle.units.specs.Units.{litresRollover, baseRollover, litresShown, baseShown}
-use Rattle.units.proofs.Sums.{litres-together, litres-in-range, base-together, base-in-range}
+use Rattle.units.specs.Units.{litresShown, baseShown}
+use Rattle.units.proofs.Sums.{litres-together, base-together}
 use Rattle.calendar.specs.Calendar.{endOfTime}
 use Rattle.ring.specs.declared.Book.{Book}
 use Rattle.ring.specs.Ring.{archiveLines, logLines, logStep, bookAfter, FromFresh, advancedBook, bookB}
@@ -88,17 +88,6 @@ pub shut-whole : (s : State) (lock : ℕ) (log : List LogLine) → wholeB s ≡ 
 unfolding shutOf
 shut-whole s lock log = turn-whole (shutRefusal s (length log) lock) s lock false log (eqb (shutRefusal s (length log) lock) 0)
 
--- a refusal gives its number and changes nothing
-pub open-refused : (s : State) (lock code : ℕ) (log : List LogLine) → eqb (openRefusal s (length log) lock code) 0 ≡ false
-    → openOf s lock code log ≡ refusedTurn (openRefusal s (length log) lock code) s log
-unfolding openOf
-open-refused s lock code log h = rw h
-
-pub shut-refused : (s : State) (lock : ℕ) (log : List LogLine) → eqb (shutRefusal s (length log) lock) 0 ≡ false
-    → shutOf s lock log ≡ refusedTurn (shutRefusal s (length log) lock) s log
-unfolding shutOf
-shut-refused s lock log h = rw h
-
 -- ---- clear
 
 clear-flag : (present latch : Bool) → (not present || latch && present) ≡ (not present || latch)
@@ -139,10 +128,6 @@ pub clear-whole : (s : State) → wholeB s ≡ true → wholeB (clearOf s .state
 unfolding clearOf
 clear-whole s = clear-by (clearRefusal s) s (eqb (clearRefusal s) 0)
 
-pub clear-refused : (s : State) → eqb (clearRefusal s) 0 ≡ false → clearOf s ≡ record { number = clearRefusal s; state = s }
-unfolding clearOf
-clear-refused s h = rw h
-
 -- of each alarm: a latch drops where the alarm is not present, and stays as it was where it is
 pub record Dropped (present latch after : Bool) : Type 0 where
   pub gone : present ≡ false → after ≡ false
@@ -177,14 +162,6 @@ total-litres c a b p q = rw (p, q) (litres-together a b)
 pub total-base : (c : Core) (a b : ℕ) → c .counters .vb ≡ baseShown a → c .counters .vbd ≡ baseShown b → reported c .vbt ≡ baseShown (a + b)
 unfolding reported
 total-base c a b p q = rw (p, q) (base-together a b)
-
-pub total-litres-in-range : (c : Core) → ltb (reported c .vmt .0) litresRollover ≡ true
-unfolding reported
-total-litres-in-range c = litres-in-range (c .counters .vm) (c .counters .vmd)
-
-pub total-base-in-range : (c : Core) → ltb (reported c .vbt .0) baseRollover ≡ true
-unfolding reported
-total-base-in-range c = base-in-range (c .counters .vb) (c .counters .vbd)
 
 -- ---- a lock's place
 

@@ -185,12 +185,6 @@ refused-says x w n l e =
     let z : eqb (firstOf (rowsOf x w)) 0 ≡ false = rw q (ne-eqb n 0 (λ h. omega arith)) in
     says x w z ∙ ap (refusalOf x) q
 
--- an accepted step does what stands above
-pub accepted-does : (x : Step) (w : World) → numberOf ((step x w) .1) ≡ 0 → (step x w) .0 ≡ after x w
-accepted-does x w e =
-    let q : firstOf (rowsOf x w) ≡ 0 = sym (number-is x w) ∙ e in
-    world-is x w ∙ rw q
-
 -- ---- a refusal leaves the core and the stores
 
 ended-core : (w : World) (door : ℕ) (t : Bool) → cond t (withSession (w .state) door noSession) (w .state) .core ≡ w .state .core

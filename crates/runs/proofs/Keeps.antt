@@ -1,26 +1,25 @@
 -- What is whole stays whole: the core after an accepted cycle, the state after any step, and so each state of a run from a start.
 -- Assumes nothing.
 use mathlib.Core.Path.{_≡_, refl}
-use mathlib.Core.Bool.{Bool, true, false, not, _&&_, _||_}
+use mathlib.Core.Bool.{Bool, true, false}
 use mathlib.Core.List.{List, [], _∷_}
 use Prim.Native.Nat.{ℕ}
 use native.Mathlib.Omega.{arith}
 use lib.Dec.{ltb, leb, eqb}
 use lib.ListN.{length}
 use borrow.Author.Tests.{eq-eqb, eqb-true, leb-false, lt-ltb}
-use Rattle.ground.proofs.Flags.{and-left, and-right, and-both}
 use Rattle.calendar.specs.Calendar.{endOfTime, monthOf}
 use Rattle.ring.specs.Ring.{archiveLines}
 use Rattle.ring.proofs.Whole.{ring-stays, book-stays, log-common}
 use Rattle.state.specs.declared.Core.{Core}
 use Rattle.state.specs.declared.State.{State}
-use Rattle.state.specs.State.{countersB, latchedB, wholeB}
+use Rattle.state.specs.State.{wholeB}
 use Rattle.state.proofs.Sound.{SoundCore, Sound, whole-sound, sound-whole}
 use Rattle.books.specs.declared.ArchiveLine.{ArchiveLine}
 use Rattle.books.specs.declared.LogLine.{LogLine}
 use Rattle.books.specs.declared.AuditLine.{AuditLine}
 use Rattle.cycle.specs.declared.Brought.{Brought}
-use Rattle.cycle.specs.Cycle.{monthLines, alarmsFor, amountsFor, anyAlarm, counted, latchesAfter, changes, cycleRefusal, cycledCore, cycled, cycleOf}
+use Rattle.cycle.specs.Cycle.{monthLines, alarmsFor, amountsFor, anyAlarm, counted, changes, cycleRefusal, cycledCore, cycled, cycleOf}
 use Rattle.cycle.proofs.Join.{accepted}
 use Rattle.cycle.proofs.Laws.{counters-stay, latches-hold}
 use Rattle.panel.proofs.Laws.{start-whole, open-whole, shut-whole, clear-whole}

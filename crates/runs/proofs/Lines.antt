@@ -88,10 +88,6 @@ module _ (S : Shelf) (K : Kept S) where
       rw (ring-is v, store-is v, told-ring (length (wrote S xs w)) (bodyOf v) (h .tells), h .stores)
       (fresh-written (S .size) (S .blank) (S .store w) (wrote S xs w) some-line e)
 
-  run-tells : (xs : List Step) (w : World) → Tells 0 (bodyOf w) → Tells (length (wrote S xs w)) (bodyOf ((run corrector xs w) .1))
-  unfolding written
-  run-tells xs w t = holding-run xs w (S .store w) [] (record { tells = t; stores = sym (store-is w) }) .tells
-
 -- ---- the archive
 
 abbrev pub ArchiveTells : ℕ → Body → Type 0
@@ -290,13 +286,3 @@ module _ (time supcode custcode : ℕ) (archive : List ArchiveLine) (log : List 
   pub audit-holds : (xs : List Step) → length audit ≡ auditLines
       → holds auditShelf ((run corrector xs begun) .1) ≡ take auditLines (reverse (wrote auditShelf xs begun))
   audit-holds xs e = run-holds auditShelf auditKept xs begun (begun-tells .2) e
-
-  -- the state tells how many lines were written, whatever the stores' lengths
-  pub archive-told : (xs : List Step) → (run corrector xs begun) .1 .state .core .archive ≡ ringAfter archiveLines (length (wrote archiveShelf xs begun))
-  archive-told xs = run-tells archiveShelf archiveKept xs begun (begun-tells .0)
-
-  pub log-told : (xs : List Step) → (run corrector xs begun) .1 .state .core .log ≡ bookAfter logLines (length (wrote logShelf xs begun))
-  log-told xs = run-tells logShelf logKept xs begun (begun-tells .1)
-
-  pub audit-told : (xs : List Step) → (run corrector xs begun) .1 .state .core .audit ≡ bookAfter auditLines (length (wrote auditShelf xs begun))
-  audit-told xs = run-tells auditShelf auditKept xs begun (begun-tells .2)
