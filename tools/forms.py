@@ -34,10 +34,10 @@ def braces(text):
     return text.replace("{", "{{").replace("}", "}}")
 
 
-def take_step(w, step, requires):
+def take_step(w, step, requires={}, turn=""):
     """A step that is no branch: a call, a length, a copy, or a store that is lent on."""
     if step[0] == "call":
-        return w.call(int(step[1][1:]), step[2], step[3], requires.get(last(step[2])))
+        return w.call(int(step[1][1:]), step[2], step[3], requires.get(last(step[2])), turn)
     if step[0] != "set" or "." in step[1]:
         sys.exit("walk.py: %s: a step that no form has: %s" % (w.name, step))
     local, (kind, *rest) = int(step[1][1:]), step[2]

@@ -1,9 +1,8 @@
 """Two more forms of walks: the store of one element, and a loop that lends local arrays at each turn."""
-import re, sys
+import re
 
-from forms import PART, REST, braces
-from walking import STOP, WALK_MODULE, Array, Held, Walk, at, indented, listed
-from sources import arg, last, put as filled_in
+from forms import braces, locals_of, take_step
+from walking import STOP, WALK_MODULE, Held, Walk, indented, listed
 
 # ---- the store of one element, where it is there
 
@@ -112,30 +111,13 @@ def rest(body, n):
     return "(%s)" % ("rest-of (" * n + body + ")" * n) if n else body
 
 
-def step(w, s, turn=""):
-    """One step by value, or one that lends a local array."""
-    if s[0] == "call":
-        return w.call(int(s[1][1:]), s[2], s[3], None, turn)
-    local, (kind, *given) = int(s[1][1:]), s[2]
-    if kind == "copy":
-        w.copy(local, given[0])
-    elif kind == "address":
-        w.sets(local, "(addr ! %s)" % STOP, "(tt, tt)")
-        w.refs[local] = int(given[0][1:])
-    elif kind == "pack":
-        ref = int(given[0][0][1:])
-        of = w.refs[ref]
-        w.sets(local, "(agg ! %s)" % w.operands(given[0]), "(tt, (tt, (record { fits = lit< tt }, tt)))")
-        array = Array(of, ref, local, w.code.local_types[local].startswith("&mut"), w.values[of][1])
-        array.now, _, array.fine = w.values[of]
-        w.lent[local] = array
-    else:
-        sys.exit("walk.py: %s: a step of no known form: %s" % (w.name, s))
-
-
 def forget(w, locals_):
     w.out("".join("forget ! %d refl $ " % w.held.at("L%d" % i) for i in locals_))
     w.filled -= set(locals_)
+
+
+def product_of(types):
+    return types[0] if len(types) == 1 else "(%s × %s)" % (types[0], product_of(types[1:]))
 
 
 def rounds(name, carried, opening, turning, said, what="What the loop carries after k turns is written down as it is defined; each turn lends the local arrays, and gets them back."):
@@ -153,13 +135,12 @@ def rounds(name, carried, opening, turning, said, what="What the loop carries af
     # up to the loop
     w.start()
     entering, w.told = w.lines, []
-    entered = w.open
     entering.append("passed " + " ".join("l%d" % i for i in range(w.count)) + ")" * w.open)
     parts.begin("passed", "(code.function .body)", ret)
     w.take_apart()
     parts.cut("from-0", "(code.function .body)", ret)
-    for i, s in enumerate(before):
-        step(w, s)
+    for s in before:
+        take_step(w, s)
     forget(w, sorted(w.filled - stays))
     everything = [v for i in reversed(range(w.count)) for v in ("L%d" % i, "D%d" % i)]
     w.out("keep ! %s $" % listed([w.held.at(l) for l in everything]))
@@ -199,7 +180,7 @@ def rounds(name, carried, opening, turning, said, what="What the loop carries af
         if s[0] == "set" and s[2][0] == "address" and not w.refs:
             lent += 1
             parts.cut("turn-%d" % lent, rest("M.turn-1", i + 2), turned)
-        step(w, s, turn)
+        take_step(w, s, turn=turn)
         if s[0] == "call" and w.refs:
             forget(w, sorted(set(w.refs) | set(w.lent), reverse=True))
             w.refs, w.lent = {}, {}
@@ -218,7 +199,7 @@ def rounds(name, carried, opening, turning, said, what="What the loop carries af
     parts.begin("left-loop", "M.t-%d" % (place + 2), ret)
     forget(w, [t_local])
     for s in tail[:-1]:
-        step(w, s, turn)
+        take_step(w, s, turn=turn)
     value, type, fine = w.values[0]
     done = w.leave("returns ! (look ! %d refl) $" % w.held.at("L0"))
     parts.end(done + "keep ! [] $ by ! (exits k last %s)" % fine)
@@ -230,9 +211,6 @@ def rounds(name, carried, opening, turning, said, what="What the loop carries af
     w.names.laws(" ".join(re.findall(r"[a-z]+(?:-[a-z]+)+", said)))
     exits = w.exits(value, type, {}, said, "").replace("exits : Fine", "exits : (k : ℕ) → k ≡ n → Fine").replace("exits ok", "exits k last ok")
     names = "".join("abbrev %s-at : ℕ → %s\n%s-at k = %s\n\n" % (short, w.values[i][1].means, short, v) for i, (short, v) in carried.items())
-    upto = "(k ≤ n)"
-    for i, (short, _) in carried.items():
-        upto += " × Fine %s (%s-at k)" % (w.values[i][1].known, short)
     fine_types = ["Fine %s (%s-at k)" % (w.values[i][1].known, short) for i, (short, _) in carried.items()]
     inside = """-- how many turns there are, and what the loop carries after k of them
 abbrev n : ℕ
@@ -258,8 +236,7 @@ nearer : (k m : ℕ) → k < m → m - suc k < m - k
 nearer k m less = omega arith
 
 """
-    places = " ".join("l%d" % i for i in range(w.count))
-    lemmas = REST.format(ls=places, list="".join("(ty%d, l%d) ∷ " % (i, i) for i in range(w.count)) + "[]", types="".join("abbrev ty%d : Ty\nty%d = spell M.table %s\n\n" % (i, i, t) for i, t in enumerate(w.code.written)))
+    lemmas = locals_of(w)
     lemmas += """  -- what is held after k turns
   abbrev Cells : ℕ → List (Item 𝓤)
   Cells k = {cells}
@@ -276,7 +253,3 @@ nearer k m less = omega arith
 
 {prologue}""".format(cells=cells, t=place + 2, turn=turn_parts, split="".join(" (i .1 %s)" % (".1 " * (j + 1) + (".0" if j + 1 < len(carried) else "")).strip() for j in range(len(carried))), prologue=prologue)
     w.save(before_, inside, WALK_MODULE % (braces(indented(lemmas, 2)), braces(indented("\n".join(entering), 6))))
-
-
-def product_of(types):
-    return types[0] if len(types) == 1 else "(%s × %s)" % (types[0], product_of(types[1:]))

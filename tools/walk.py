@@ -25,6 +25,12 @@ the compiler (tools/mir.py) and what each call says of its answer from the contr
 
     ring("books::write_log")       the loop that stores lines one by one into a ring
     fetch("books::fetch_log")      the branch that reads one line
+    put("desk::put_said")          the branch that stores one element
+
+    rounds("desk::serve", carried={6: ("s", "after d orders k .state")}, opening="after", turning="after deskAfter", said="(served-after ..)")
+        a function by value with one loop, `while k < n { ..; k = k + 1; }`, whose turns lend local arrays. `carried` says of each local
+        that the loop changes (by its number in the listing) what it is after k turns; those definitions are unfolded at the start
+        (`opening`) and at the end of a turn (`turning`). `said` proves the contract from `last : k ≡ n`.
 
 A type `Name` is known by the `a-Name` that some crate's proofs/Types.antt has; `a-u64`, `a-bool` and the like stand in Types of the
 crate `books`. A slice parameter x is spoken of as x-now (its list), a plain one by its name. Run `rt fmt` after the tool.

@@ -1,17 +1,10 @@
 // The bench: commands from standard input, one a line, and one line of output for each, in order. What has been answered is written before
 // more is read. An unfinished line is kept at the front of the input, cut to as much as decides its answer, so memory stays as it is.
-mod turns;
-
 ghost use Prim.Native.Nat.{_+_, _≤_};
 ghost use lib.ListN.{length};
 use desk::Desk;
 use libc::STDIN_FILENO;
 use libc::STDOUT_FILENO;
-
-// Room for any reply.
-const ROOM: usize = 256;
-
-const LINE_FEED: u8 = 10;
 
 // What is left of the input: the bytes from one place up to another; and whether there may be more.
 struct Window {
@@ -20,49 +13,9 @@ struct Window {
     on: bool,
 }
 
-// After some lines: the desk, how many bytes of the input they were, and how many their replies are.
-struct Served {
-    desk: Desk,
-    at: usize,
-    used: usize,
-}
-
 struct Reached {
     desk: Desk,
     left: Window,
-}
-
-// Answers the whole lines of the input, one after another, as far as their replies have room.
-fn answer_lines(d: Desk, input: &[u8], out: &mut [u8]) -> Served
-    ensures { λ r. ⌜ (r .at ≤ length (now (input .entry))) × (r .used ≤ length (now (out .exit))) ⌝ }
-{
-    let mut desk = d;
-    let mut at: usize = 0;
-    let mut used: usize = 0;
-    let mut n = text::words::first_of(input, LINE_FEED);
-    while n < input.len() - at {
-        if out.len() - used < ROOM {
-            return Served {
-                desk: desk,
-                at: at,
-                used: used,
-            };
-        }
-        let end = at + n;
-        let command = text::commands::command_of(&input[at..end]);
-        let turn = turns::answer(desk, command);
-        let reply = turn.reply;
-        let next = turn.desk;
-        desk = next;
-        used = text::replies::reply_line(out, used, reply);
-        at = end + 1;
-        n = text::words::first_of(&input[at..], LINE_FEED);
-    }
-    Served {
-        desk: desk,
-        at: at,
-        used: used,
-    }
 }
 
 // One read behind the bytes that are held, and how many came: 0 at the end of the input.
@@ -90,7 +43,7 @@ fn refill(input: &mut [u8], from: usize, have: usize) -> Window
     }
     if 0 < held {
         if held < input.len() {
-            input[held] = LINE_FEED;
+            input[held] = lines::LINE_FEED;
             return Window {
                 from: 0,
                 have: held + 1,
@@ -110,14 +63,17 @@ fn step(d: Desk, input: &mut [u8], out: &mut [u8], from: usize, have: usize) -> 
     requires { ⌜ (from ≤ have) × (have ≤ length (now input)) ⌝ }
     ensures { λ r. ⌜ (r .left .from ≤ r .left .have) × (r .left .have ≤ length (now (input .exit))) ⌝ }
 {
-    let served = answer_lines(d, &input[from..have], out);
+    let asked = lines::orders_in(&input[from..have]);
+    let orders = asked.orders;
+    let served = desk::serve(d, orders, asked.count);
     let desk = served.desk;
-    let used = served.used;
+    let said = served.said;
+    let used = lines::put_replies(out, said, asked.count);
     let sent = io::write_all(STDOUT_FILENO, &out[..used]);
     if sent {
-        if 0 < served.at {
+        if 0 < asked.at {
             let left = Window {
-                from: from + served.at,
+                from: from + asked.at,
                 have: have,
                 on: true,
             };
@@ -146,7 +102,9 @@ fn step(d: Desk, input: &mut [u8], out: &mut [u8], from: usize, have: usize) -> 
 fn main() {
     let mut input = io::large_buffer();
     let mut out = io::large_buffer();
-    let mut desk = turns::fresh();
+    // As start time 0 and codes 0 give.
+    let begun = desk::fresh(0, 0, 0);
+    let mut desk = begun.desk;
     let mut from: usize = 0;
     let mut have: usize = 0;
     let mut on = true;

@@ -1,2 +1,3 @@
--- The types that walks hand over.
+-- The types that walks hand over; the laws of a block.
 pub mod Types
+pub mod Laws

@@ -1,27 +1,30 @@
--- The commands on a desk, which is the device's state with its three stores: each is the device's own command, with the desk's stores lent.
+-- Commands on a desk, which is the device's state with its three stores: each is the device's own command, with the desk's stores lent.
 -- Assumes nothing.
-use Prim.Native.Nat.{ℕ}
+use Prim.Native.Nat.{ℕ, zero, suc, min}
 use mathlib.Core.List.{List}
-use lib.ListN.{replicate}
-use Rattle.settings.specs.declared.Value.{Value}
+use lib.ListN.{replicate, getD, set}
 use Rattle.ring.specs.Ring.{archiveLines, logLines, auditLines}
 use Rattle.books.specs.declared.ArchiveLine.{ArchiveLine}
 use Rattle.books.specs.declared.LogLine.{LogLine}
 use Rattle.books.specs.declared.AuditLine.{AuditLine}
 use Rattle.books.specs.Books.{noArchive, noLog, noAudit}
-use Rattle.state.specs.declared.Answer.{Answer}
-use Rattle.cycle.specs.declared.Brought.{Brought}
-use Rattle.cycle.specs.Cycle.{Outcome, cycleOf}
-use Rattle.panel.specs.Panel.{Logged, startOf, openOf, shutOf, clearOf}
-use Rattle.doors.specs.Doors.{Audited, beginOf, abandonOf, readOf, writeOf, commitOf}
+use Rattle.state.specs.declared.State.{State}
+use Rattle.panel.specs.Panel.{startOf}
+use Rattle.text.specs.declared.commands.Command.{Command}
+use Rattle.text.specs.declared.commands.Command.the-variants as Commands
+use Rattle.text.specs.declared.replies.Reply.{Reply}
+use Rattle.text.specs.declared.replies.Reply.the-variants as Replies
+use Rattle.turns.specs.declared.Turn.{Turn}
+use Rattle.turns.specs.Turns.{turnOf, shownOf}
 use Rattle.desk.specs.declared.Desk.{Desk}
-use Rattle.desk.specs.declared.Done.{Done}
 use Rattle.desk.specs.declared.Started.{Started}
-use Rattle.desk.specs.declared.ReadDone.{ReadDone}
+use Rattle.desk.specs.declared.Order.{Order}
+use Rattle.desk.specs.declared.Said.{Said}
+use Rattle.desk.specs.declared.Served.{Served}
 
--- an answer, and the desk of its state and these stores
-unfoldable pub withStores : Answer → List ArchiveLine → List LogLine → List AuditLine → Done
-withStores a archive log audit = record { number = a .number; desk = record { state = a .state; archive = archive; log = log; audit = audit } }
+-- how many commands a block may have
+abbrev pub block : ℕ
+block = 256
 
 -- a start writes nothing into the stores: every line is one that was never written
 unfoldable pub started : ℕ → ℕ → ℕ → Started
@@ -35,49 +38,52 @@ started time supcode custcode = record {
   };
 }
 
--- ---- lent no store: all three stay
+-- ---- one command
 
-unfoldable pub onState : Desk → Answer → Done
-onState d a = withStores a (d .archive) (d .log) (d .audit)
+-- what a command that asks for a line is shown
+unfoldable pub shownOn : Desk → Command → Reply
+shownOn d c = shownOf (d .state) c (d .archive) (d .log) (d .audit)
 
-unfoldable pub onClear : Desk → Done
-onClear d = onState d (clearOf (d .state))
+-- the desk lends its three stores: what is answered, and the desk afterwards
+unfoldable pub replyOn : Desk → Command → Reply
+replyOn d c = turnOf (d .state) c (shownOn d c) (d .archive) (d .log) (d .audit) .turn .reply
 
-unfoldable pub onBegin : Desk → ℕ → Done
-onBegin d door = onState d (beginOf (d .state) door)
-
-unfoldable pub onAbandon : Desk → ℕ → Done
-onAbandon d door = onState d (abandonOf (d .state) door)
-
-unfoldable pub onWrite : Desk → ℕ → ℕ → Value → Done
-onWrite d door setting v = onState d (writeOf (d .state) door setting v)
-
-unfoldable pub onRead : Desk → ℕ → ℕ → ReadDone
-onRead d door setting = record {
-  number = readOf (d .state) door setting .number;
-  value = readOf (d .state) door setting .value;
-  desk = record { state = readOf (d .state) door setting .state; archive = d .archive; log = d .log; audit = d .audit };
+unfoldable pub deskAfter : Desk → Command → Desk
+deskAfter d c = record {
+  state = turnOf (d .state) c (shownOn d c) (d .archive) (d .log) (d .audit) .turn .state;
+  archive = turnOf (d .state) c (shownOn d c) (d .archive) (d .log) (d .audit) .archive;
+  log = turnOf (d .state) c (shownOn d c) (d .archive) (d .log) (d .audit) .log;
+  audit = turnOf (d .state) c (shownOn d c) (d .archive) (d .log) (d .audit) .audit;
 }
 
--- ---- lent the logbook, the archive and the logbook, the audit trail
+-- ---- commands one after another
 
-unfoldable pub onLog : Desk → Logged → Done
-onLog d x = withStores (x .answer) (d .archive) (x .log) (d .audit)
+abbrev pub noOrder : Order
+noOrder = record { command = Commands.Nothing }
 
-unfoldable pub onOpen : Desk → ℕ → ℕ → Done
-onOpen d lock code = onLog d (openOf (d .state) lock code (d .log))
+abbrev pub nothingSaid : Said
+nothingSaid = record { reply = Replies.Nothing }
 
-unfoldable pub onShut : Desk → ℕ → Done
-onShut d lock = onLog d (shutOf (d .state) lock (d .log))
+abbrev pub orderAt : List Order → ℕ → Command
+orderAt orders k = getD orders k noOrder .command
 
-unfoldable pub onBoth : Desk → Outcome → Done
-onBoth d x = withStores (x .answer) (x .archive) (x .log) (d .audit)
+-- the desk after the first k
+unfoldable pub after : Desk → List Order → ℕ → Desk
+after d orders zero = d
+after d orders (suc k) = deskAfter (after d orders k) (orderAt orders k)
 
-unfoldable pub onCycle : Desk → Brought → Done
-onCycle d b = onBoth d (cycleOf (d .state) b (d .archive) (d .log))
+-- what was answered to the first k, each at its place
+unfoldable pub saidUpTo : Desk → List Order → ℕ → List Said
+saidUpTo d orders zero = replicate block nothingSaid
+saidUpTo d orders (suc k) = set (saidUpTo d orders k) k (record { reply = replyOn (after d orders k) (orderAt orders k) })
 
-unfoldable pub onAudit : Desk → Audited → Done
-onAudit d x = withStores (x .answer) (d .archive) (d .log) (x .audit)
+unfoldable pub served : Desk → List Order → ℕ → Served
+served d orders count = record { desk = after d orders (min count block); said = saidUpTo d orders (min count block) }
 
-unfoldable pub onCommit : Desk → ℕ → Done
-onCommit d door = onAudit d (commitOf (d .state) door (d .audit))
+-- ---- parts, by value
+
+unfoldable pub saidOf : Turn → Said
+saidOf t = record { reply = t .reply }
+
+unfoldable pub puttingTogether : State → List ArchiveLine → List LogLine → List AuditLine → List Said → Served
+puttingTogether s archive log audit said = record { desk = record { state = s; archive = archive; log = log; audit = audit }; said = said }

@@ -9,7 +9,7 @@ use Rattle.bench.proofs.main.Statement.{statement}
 use Rattle.bench.proofs.main.Tie as tie
 use Rattle.bench.proofs.main.Reads as reads
 use Rattle.bench.proofs.main.Lts as lts
-use Rattle.bench.proofs.turns.fresh.Reads as fresh-reads
+use Rattle.desk.proofs.fresh.Reads as fresh-reads
 use Rattle.bench.proofs.step.Reads as step-reads
 use Rattle.io.proofs.large_buffer.Reads as large-buffer-reads
 
@@ -30,7 +30,7 @@ fresh-requires : tie.Need-fresh-requires Inv-loop μ-loop
 fresh-requires c κs = search needs
 
 loop-holds : tie.Need-loop-holds Inv-loop μ-loop
-loop-holds c = (sym (c .before .before .large-buffer .ensures), sym (c .before .large-buffer2 .ensures), omega arith, omega arith)
+loop-holds c = (sym (c .before .before .before .large-buffer .ensures), sym (c .before .before .large-buffer2 .ensures), omega arith, omega arith)
 
 returns : tie.Need-returns Inv-loop μ-loop
 returns c = tt

@@ -1,47 +1,55 @@
 -- `bench::step` keeps what is left of the input within it.
 -- Assumes nothing.
-use borrow.Author.Needs.{needs}
 use mathlib.Core.Path.{_≡_, sym}
 use native.Mathlib.Omega.{arith}
 use lib.Seq.{length-take-le}
 use denote.Ref.{now}
 use Rattle.bench.proofs.Parts.{part-length}
+use borrow.Author.Needs.{needs}
 use Rattle.bench.proofs.step.Statement.{statement}
 use Rattle.bench.proofs.step.Tie as tie
 use Rattle.bench.proofs.step.Reads as reads
 use Rattle.bench.proofs.step.Lts as lts
-use Rattle.bench.proofs.answer_lines.Reads as answer-lines-reads
+use Rattle.lines.proofs.orders_in.Reads as orders-in-reads
+use Rattle.lines.proofs.put_replies.Reads as put-replies-reads
 use Rattle.bench.proofs.refill.Reads as refill-reads
+use Rattle.desk.proofs.serve.Reads as serve-reads
 use Rattle.io.proofs.write_all.Reads as write-all-reads
 
-sub-answer-lines : tie.Need-sub-answer-lines
-sub-answer-lines c = search needs
+sub-orders-in : tie.Need-sub-orders-in
+sub-orders-in c = search needs
 
-part-answer-lines-start : tie.Need-part-answer-lines-start
-part-answer-lines-start c = search needs
+part-orders-in-start : tie.Need-part-orders-in-start
+part-orders-in-start c = search needs
 
-part-answer-lines-end : tie.Need-part-answer-lines-end
-part-answer-lines-end c = search needs
+part-orders-in-end : tie.Need-part-orders-in-end
+part-orders-in-end c = search needs
 
-answer-lines-requires : tie.Need-answer-lines-requires
-answer-lines-requires c κs = search needs
+orders-in-requires : tie.Need-orders-in-requires
+orders-in-requires c κs = search needs
+
+serve-requires : tie.Need-serve-requires
+serve-requires c κs = search needs
+
+put-replies-requires : tie.Need-put-replies-requires
+put-replies-requires c κs = search needs
 
 slice-reshare-prefix-write-all : tie.Need-slice-reshare-prefix-write-all
 slice-reshare-prefix-write-all c = search needs
 
 slice-aggregate-write-all : tie.Need-slice-aggregate-write-all
-slice-aggregate-write-all c = sym (length-take-le _ _ (c .before .before .before .before .answer-lines .ensures .1))
+slice-aggregate-write-all c = sym (length-take-le _ _ (c .before .before .before .put-replies .ensures))
 
 write-all-requires : tie.Need-write-all-requires
 write-all-requires c κs = search needs
 
-add-t23 : tie.Need-add-t23
-add-t23 c =
-    let a = c .before .before .before .before .before .before .before .before .before .before .before .before .before .before .before .args in
-    let p = c .before .before .before .before .before .before .before .before .before .before .before .before .before .before .before .pre in
+add-t26 : tie.Need-add-t26
+add-t26 c =
+    let a = c .before .before .before .before .before .before .before .before .before .before .before .before .before .before .before .before .before .before .before .args in
+    let p = c .before .before .before .before .before .before .before .before .before .before .before .before .before .before .before .before .before .before .before .pre in
     let l = part-length (now (a .input)) (a .from) (a .have) (p .0) (p .1) in
-    let g = c .before .before .before .before .before .before .before .before .before .before .before .before .before .before .before .fits .have in
-    let e = c .before .before .before .before .before .before .before .before .before .answer-lines .ensures .0 in
+    let g = c .before .before .before .before .before .before .before .before .before .before .before .before .before .before .before .before .before .before .before .fits .have in
+    let e = c .before .before .before .before .before .before .before .before .before .before .before .before .before .before .orders-in .ensures in
     omega arith
 
 same-length : tie.Need-same-length
@@ -52,10 +60,10 @@ same-length-2 c = search needs
 
 returns : tie.Need-returns
 returns c =
-    let a = c .before .before .before .before .before .before .before .before .before .before .before .before .before .before .before .args in
-    let p = c .before .before .before .before .before .before .before .before .before .before .before .before .before .before .before .pre in
+    let a = c .before .before .before .before .before .before .before .before .before .before .before .before .before .before .before .before .before .before .before .args in
+    let p = c .before .before .before .before .before .before .before .before .before .before .before .before .before .before .before .before .before .before .before .pre in
     let l = part-length (now (a .input)) (a .from) (a .have) (p .0) (p .1) in
-    let e = c .before .before .before .before .before .before .before .before .before .answer-lines .ensures .0 in
+    let e = c .before .before .before .before .before .before .before .before .before .before .before .before .before .before .orders-in .ensures in
     (omega arith, p .1)
 
 refill-requires : tie.Need-refill-requires
@@ -83,14 +91,16 @@ pub step-spec : {M : Type 1} → statement M
 step-spec =
     tie.close
     (tie.spec
-    sub-answer-lines
-    part-answer-lines-start
-    part-answer-lines-end
-    answer-lines-requires
+    sub-orders-in
+    part-orders-in-start
+    part-orders-in-end
+    orders-in-requires
+    serve-requires
+    put-replies-requires
     slice-reshare-prefix-write-all
     slice-aggregate-write-all
     write-all-requires
-    add-t23
+    add-t26
     same-length
     same-length-2
     returns

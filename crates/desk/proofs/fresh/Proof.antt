@@ -1,4 +1,4 @@
--- `desk::fresh` meets its contract. Its definition is unfolded, and has there what the calls say.
+-- `desk::fresh` meets its contract. Its definition is unfolded at each return, and has there what the calls and the tests on the way say.
 -- Assumes nothing.
 use Rattle.desk.specs.Desk.{started}
 use borrow.Author.Needs.{needs}
@@ -22,4 +22,6 @@ unfolding started
 returns c = simp (c .no-audit .ensures, c .before .no-log .ensures, c .before .before .no-archive .ensures, c .before .before .before .before .start .ensures)
 
 pub fresh-spec : {M : Type 1} → statement M
-fresh-spec = tie.close (tie.spec start-requires no-archive-requires no-log-requires no-audit-requires returns)
+fresh-spec =
+    tie.close
+    (tie.spec start-requires no-archive-requires no-log-requires no-audit-requires returns)

@@ -1,0 +1,13 @@
+-- `desk::put_together` meets its contract. Its definition is unfolded at each return, and has there what the calls and the tests on the way say.
+-- Assumes nothing.
+use Rattle.desk.specs.Desk.{puttingTogether}
+use mathlib.Core.Path.{refl}
+use Rattle.desk.proofs.put_together.Statement.{statement}
+use Rattle.desk.proofs.put_together.Tie as tie
+
+returns : tie.Need-returns
+unfolding puttingTogether
+returns c = refl
+
+pub put-together-spec : {M : Type 1} → statement M
+put-together-spec = tie.close (tie.spec returns)

@@ -1,0 +1,78 @@
+// Puts one block of commands to a desk again and again, so that the device can be timed with the cost of its text set apart. The first line of
+// standard input is the number of passes, and the block's commands follow; a pass is what the bench does with a block between reading its
+// lines and writing its replies. Printed is how many commands the last pass accepted.
+use desk::Desk;
+use desk::Order;
+use desk::Said;
+use libc::STDIN_FILENO;
+use libc::STDOUT_FILENO;
+use text::numbers::Number;
+use text::replies::Reply;
+
+// A refusal is a number that is not 0; a line that is no command is refused too.
+fn is_accepted(x: Said) -> bool {
+    let reply = x.reply;
+    match reply {
+        Reply::Unknown => false,
+        Reply::Number(n) => n == 0,
+        _ => true,
+    }
+}
+
+fn accepted_in(said: [Said; desk::BLOCK], count: usize) -> u64 {
+    let mut found: u64 = 0;
+    for k in 0..desk::BLOCK {
+        if k < count {
+            let x = said[k];
+            let good = is_accepted(x);
+            if good {
+                found = std::num::wrapping_add_u64(found, 1);
+            }
+        }
+    }
+    found
+}
+
+// How many of the block the last pass accepted.
+fn run(d: Desk, orders: [Order; desk::BLOCK], count: usize, passes: u64) -> u64 {
+    let mut desk = d;
+    let mut found: u64 = 0;
+    let mut left = passes;
+    while 0 < left {
+        let served = desk::serve(desk, orders, count);
+        let next = served.desk;
+        desk = next;
+        let said = served.said;
+        found = accepted_in(said, count);
+        left -= 1;
+    }
+    found
+}
+
+fn number_in(w: &[u8]) -> u64 {
+    match text::numbers::number_of(w) {
+        Number::NotOne => 0,
+        Number::Is(n) => n,
+    }
+}
+
+fn timed(input: &[u8]) -> u64 {
+    let n = text::words::first_of(input, lines::LINE_FEED);
+    if n < input.len() {
+        let passes = number_in(&input[..n]);
+        let asked = lines::orders_in(&input[n + 1..]);
+        let orders = asked.orders;
+        let begun = desk::fresh(0, 0, 0);
+        let d = begun.desk;
+        return run(d, orders, asked.count, passes);
+    }
+    0
+}
+
+fn main() {
+    let mut space = io::large_buffer();
+    let have = io::read_full(STDIN_FILENO, &mut space);
+    let found = timed(&space[..have]);
+    let _ = io::print_decimal(STDOUT_FILENO, found);
+    let _ = io::write_all(STDOUT_FILENO, b"\n");
+}
