@@ -17,10 +17,11 @@ use corrector_reference::lines::write_command;
 const USAGE: &str = "\
 usage: speed [--device PROGRAM] [--bench PROGRAM] [options]
 
-  --device PROGRAM  a timing program for the Rattle device, see the README
+  --device PROGRAM  the program that puts a block to the Rattle device, see
+                    the README
   --bench PROGRAM   the bench, measured as a whole in lines a second
-  --rounds N        how often each figure is taken; the best counts (25)
-  --seconds S       about how long each of them takes (0.1)
+  --rounds N        how often each figure is taken; the best counts (10)
+  --seconds S       about how long each of them takes (0.4)
   --save FOLDER     writes the two workloads there as lines, and ends
 
 Without --device and --bench the table has the reference's figures alone.";
@@ -28,12 +29,18 @@ Without --device and --bench the table has the reference's figures alone.";
 /// The same commands for every side and every run.
 const SEED: u64 = 2_000;
 const COMMANDS: usize = 100_000;
+/// As many commands as the bench puts to the device between reading their
+/// lines and writing their replies.
+const BLOCK: usize = 256;
+const BLOCKS: u64 = 8;
 
 struct Workload {
     name: &'static str,
-    /// The first is a start, so that the workload can be put to a device any
-    /// number of times.
+    /// For the programs that read and write lines.
     commands: Vec<Command>,
+    /// For the devices alone. The first command of a block is a start, so that
+    /// it can be put to a device any number of times.
+    blocks: Vec<Vec<Command>>,
     /// Every command is accepted.
     all_accepted: bool,
 }
@@ -44,24 +51,30 @@ impl Workload {
             Workload {
                 name: "cycles",
                 commands: accepted_cycles(SEED, COMMANDS),
+                blocks: (0..BLOCKS).map(|i| accepted_cycles(SEED + i, BLOCK - 1)).collect(),
                 all_accepted: true,
             },
             Workload {
                 name: "mixed",
                 commands: mixed_commands(SEED, COMMANDS),
+                blocks: (0..BLOCKS).map(|i| mixed_commands(SEED + i, BLOCK)).collect(),
                 all_accepted: false,
             },
         ]
     }
 
     fn lines(&self) -> Vec<u8> {
-        let mut lines = Vec::new();
-        for command in &self.commands {
-            write_command(command, &mut lines);
-            lines.push(b'\n');
-        }
-        lines
+        lines_of(&self.commands)
     }
+}
+
+fn lines_of(commands: &[Command]) -> Vec<u8> {
+    let mut lines = Vec::new();
+    for command in commands {
+        write_command(command, &mut lines);
+        lines.push(b'\n');
+    }
+    lines
 }
 
 /// What took how long.
@@ -77,16 +90,12 @@ impl Timing {
 }
 
 /// One side of the table: a device that is given commands as plain values.
-///
-/// The Rattle device joins here. Today that is the timing program below; a
-/// static library of `extern "C"` functions would be a third kind of side,
-/// whose `time` turns each command into one call, as the bench does after it
-/// has read the text.
 trait Side {
     fn name(&self) -> &str;
 
-    /// Puts the workload to the device so many times.
-    fn time(&mut self, workload: &Workload, passes: u64) -> Result<Timing, String>;
+    /// Puts the block to the device so many times. Gives the time that took,
+    /// text set apart, and how many commands the last pass accepted.
+    fn time(&mut self, block: &[Command], passes: u64) -> Result<(Duration, usize), String>;
 }
 
 struct Reference {
@@ -98,62 +107,60 @@ impl Side for Reference {
         "Rust reference"
     }
 
-    fn time(&mut self, workload: &Workload, passes: u64) -> Result<Timing, String> {
+    fn time(&mut self, block: &[Command], passes: u64) -> Result<(Duration, usize), String> {
         let mut accepted = 0;
         let begun = Instant::now();
         for _ in 0..passes {
-            for command in &workload.commands {
+            accepted = 0;
+            for command in block {
                 // The compiler must not learn what is in the commands, nor
                 // that nobody looks at most answers.
                 let answer = black_box(obey(&mut self.device, black_box(command)));
-                accepted += u64::from(answer.is_ok());
+                accepted += usize::from(answer.is_ok());
             }
         }
-        let elapsed = begun.elapsed();
-        let commands = passes * workload.commands.len() as u64;
-        if workload.all_accepted && accepted != commands {
-            return Err(format!("{}: a command was refused", workload.name));
-        }
-        Ok(Timing { commands, elapsed })
+        Ok((begun.elapsed(), accepted))
     }
 }
 
-/// A program that times another device. It is started with the number of
-/// passes as its only argument and the workload's lines on its standard
-/// input. It reads them all into plain values, puts them to its device so
-/// many times, and prints how many commands that were and how many
-/// nanoseconds they took, text set apart.
-struct TimingProgram {
+/// A program that puts a block to the Rattle device, as the bench does. On its
+/// standard input are the number of passes and then the block's lines; it
+/// prints how many commands the last pass accepted. It has no clock: the time
+/// of its passes is that of the whole program less that of a run without any,
+/// in which only the lines are read.
+struct BlockProgram {
     program: PathBuf,
 }
 
-impl Side for TimingProgram {
+impl BlockProgram {
+    fn run(&self, block: &[Command], passes: u64) -> Result<(Duration, usize), String> {
+        let mut input = format!("{passes}\n").into_bytes();
+        input.extend(lines_of(block));
+        let name = self.program.display();
+        let (output, elapsed) =
+            run(&self.program, input).map_err(|error| format!("{name}: {error}"))?;
+        let text = String::from_utf8_lossy(&output);
+        let accepted = text.trim().parse().map_err(|_| format!("{name}: no number: {text}"))?;
+        Ok((elapsed, accepted))
+    }
+}
+
+impl Side for BlockProgram {
     fn name(&self) -> &str {
         "Rattle device"
     }
 
-    fn time(&mut self, workload: &Workload, passes: u64) -> Result<Timing, String> {
-        let (output, _) = run(&self.program, Some(passes), workload.lines())
-            .map_err(|error| format!("{}: {error}", self.program.display()))?;
-        let text = String::from_utf8_lossy(&output);
-        let numbers: Vec<u64> =
-            text.split_whitespace().filter_map(|word| word.parse().ok()).collect();
-        match numbers[..] {
-            [commands, nanoseconds] if commands > 0 && nanoseconds > 0 => {
-                Ok(Timing { commands, elapsed: Duration::from_nanos(nanoseconds) })
-            }
-            _ => Err(format!("{}: not a timing: {}", self.program.display(), text.trim())),
-        }
+    fn time(&mut self, block: &[Command], passes: u64) -> Result<(Duration, usize), String> {
+        let (idle, _) = self.run(block, 0)?;
+        let (busy, accepted) = self.run(block, passes)?;
+        Ok((busy.saturating_sub(idle), accepted))
     }
 }
 
 /// Runs a program on an input that is written by a thread of its own, so that
 /// full pipes hold nobody up. Gives its output and the time it took.
-fn run(program: &Path, passes: Option<u64>, input: Vec<u8>) -> io::Result<(Vec<u8>, Duration)> {
+fn run(program: &Path, input: Vec<u8>) -> io::Result<(Vec<u8>, Duration)> {
     let mut process = Process::new(program);
-    if let Some(passes) = passes {
-        process.arg(passes.to_string());
-    }
     let begun = Instant::now();
     let mut child = process.stdin(Stdio::piped()).stdout(Stdio::piped()).spawn()?;
     let mut stdin = child.stdin.take().expect("a piped standard input");
@@ -182,7 +189,7 @@ struct Options {
 }
 
 fn read_options() -> Result<Option<Options>, String> {
-    let mut options = Options { device: None, bench: None, rounds: 25, seconds: 0.1, save: None };
+    let mut options = Options { device: None, bench: None, rounds: 10, seconds: 0.4, save: None };
     let mut words = std::env::args().skip(1);
     while let Some(word) = words.next() {
         let mut next = || words.next().ok_or(format!("{word} needs a value"));
@@ -237,7 +244,7 @@ fn measure(options: &Options) -> Result<(), String> {
 
     let mut sides: Vec<Box<dyn Side>> = vec![Box::new(Reference { device: Device::new() })];
     if let Some(program) = &options.device {
-        sides.push(Box::new(TimingProgram { program: program.clone() }));
+        sides.push(Box::new(BlockProgram { program: program.clone() }));
     }
     // One row of figures for each side, one column for each workload.
     let mut figures = vec![Vec::new(); sides.len()];
@@ -255,7 +262,7 @@ fn measure(options: &Options) -> Result<(), String> {
     match figures.get(1) {
         Some(row) => {
             let ratios =
-                row.iter().zip(&figures[0]).map(|(other, own)| format!("{:.2}", other / own));
+                row.iter().zip(&figures[0]).map(|(other, own)| format!("{:.3}", other / own));
             print_row("ratio, Rattle to Rust", ratios);
         }
         None => print_row("Rattle device", ["not measured"; 2].map(String::from).into_iter()),
@@ -302,17 +309,28 @@ fn device_figures(
     workload: &Workload,
     options: &Options,
 ) -> Result<Vec<f64>, String> {
+    let each = options.seconds / workload.blocks.len() as f64;
     let mut passes = Vec::new();
     for side in sides.iter_mut() {
         // A first run warms up and tells how many passes fill the time.
-        let timing = side.time(workload, 1)?;
-        let pass = workload.commands.len() as f64 / timing.a_second();
-        passes.push((options.seconds / pass).ceil().max(1.0) as u64);
+        let few = 200;
+        let (elapsed, _) = side.time(&workload.blocks[0], few)?;
+        let pass = (elapsed.as_secs_f64() / few as f64).max(1e-9);
+        passes.push((each / pass).ceil().max(1.0) as u64);
     }
     let mut rounds = vec![Vec::new(); sides.len()];
     for _ in 0..options.rounds {
         for (place, side) in sides.iter_mut().enumerate() {
-            rounds[place].push(side.time(workload, passes[place])?.a_second());
+            let mut timing = Timing { commands: 0, elapsed: Duration::ZERO };
+            for block in &workload.blocks {
+                let (elapsed, accepted) = side.time(block, passes[place])?;
+                if workload.all_accepted && accepted != block.len() {
+                    return Err(format!("{}: {} refused a command", workload.name, side.name()));
+                }
+                timing.commands += passes[place] * block.len() as u64;
+                timing.elapsed += elapsed;
+            }
+            rounds[place].push(timing.a_second());
         }
     }
     Ok(rounds.into_iter().map(best).collect())
@@ -323,7 +341,7 @@ fn program_figure(program: &Path, workload: &Workload, options: &Options) -> Res
     let once = workload.lines();
     let timed = |input: Vec<u8>, lines: usize| -> Result<f64, String> {
         let (output, elapsed) =
-            run(program, None, input).map_err(|error| format!("{}: {error}", program.display()))?;
+            run(program, input).map_err(|error| format!("{}: {error}", program.display()))?;
         if output.iter().filter(|byte| **byte == b'\n').count() != lines {
             return Err(format!("{}: not one answer for each line", program.display()));
         }
