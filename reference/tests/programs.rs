@@ -134,15 +134,33 @@ fn speed_prints_its_table() {
     assert!(text.contains("\nbench "), "{text}");
 }
 
-/// A timing program joins the table as the other side.
-#[test]
-fn speed_takes_the_figures_of_a_timing_program() {
-    let program = faulty_bench("timing", "cat > /dev/null; echo \"$(( $1 * 1000 )) 1000000\"");
-    let output = Command::new(env!("CARGO_BIN_EXE_speed"))
+/// Runs `speed` with a program that takes a while over any passes and says
+/// that it accepted so many commands.
+fn speed_with_a_device(name: &str, accepted: usize) -> Output {
+    let program = faulty_bench(
+        name,
+        &format!("read n; cat > /dev/null; [ \"$n\" = 0 ] || sleep 0.05; echo {accepted}"),
+    );
+    Command::new(env!("CARGO_BIN_EXE_speed"))
         .args(["--rounds", "1", "--seconds", "0.01", "--device", program.to_str().unwrap()])
         .output()
-        .expect("speed runs");
+        .expect("speed runs")
+}
+
+/// A program with a device joins the table as the other side.
+#[test]
+fn speed_times_another_device() {
+    let output = speed_with_a_device("timed", 256);
     let text = text(&output);
     assert!(output.status.success(), "{text}");
     assert!(text.contains("ratio, Rattle to Rust"), "{text}");
+}
+
+/// Figures of cycles that were refused would say nothing.
+#[test]
+fn speed_gives_no_figure_for_refused_cycles() {
+    let output = speed_with_a_device("refusing", 255);
+    assert!(!output.status.success(), "{}", text(&output));
+    let said = String::from_utf8_lossy(&output.stderr).to_string();
+    assert!(said.contains("refused a command"), "{said}");
 }

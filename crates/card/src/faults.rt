@@ -4,6 +4,21 @@ use crate::print::number;
 use crate::print::row_begins;
 use crate::print::row_ends;
 use crate::print::text;
+use state::faults::BAD_VALUE;
+use state::faults::DONE;
+use state::faults::LOCK_MISSING;
+use state::faults::MANY_PULSES;
+use state::faults::NO_SESSION;
+use state::faults::NO_SUCH;
+use state::faults::NOT_HELD;
+use state::faults::NOT_WHOLE;
+use state::faults::PAIR_CROSSED;
+use state::faults::SESSION_OPEN;
+use state::faults::STALE;
+use state::faults::TIME_BACK;
+use state::faults::TIME_PAST_END;
+use state::faults::TOO_LARGE;
+use state::faults::WRONG_CODE;
 
 const SETTINGS: u64 = settings::COUNT as u64;
 
@@ -50,27 +65,27 @@ fn sized(fault: u64, before: &[u8], after: &[u8], remedy: &[u8]) {
 
 // What is wrong with the call itself.
 fn of_the_call() {
-    plain(0, b"Done", b"Nothing");
+    plain(DONE, b"Done", b"Nothing");
     sized(
-        1,
+        NOT_WHOLE,
         b"A store lent to the call has not its exact length (",
         b", or the state is not whole",
         b"Stop: the box's memory or the program that calls it is damaged. Change nothing, seal the box, call the workshop",
     );
     plain(
-        2,
+        SESSION_OPEN,
         b"Begin at a door with an open session",
         b"Go on in that session, or abandon it and begin again",
     );
     limit(
-        3,
+        NO_SUCH,
         b"Door not 1 (keypad) or 2 (optical port), setting not 1 to ",
         SETTINGS,
         b", lock not 1 to 3",
         b"Look the number up on this card and give the command again",
     );
     plain(
-        4,
+        NO_SESSION,
         b"Read, Write, Commit or Abandon at a door with no session",
         b"Begin first; what an ended session had read or staged is gone",
     );
@@ -79,19 +94,19 @@ fn of_the_call() {
 // What a cycle or a start brings.
 fn of_the_cycle() {
     plain(
-        5,
+        TIME_BACK,
         b"Cycle time before the last accepted time",
         b"Set the clock if it is slow; if the report's time is ahead of the true time, call the workshop",
     );
     limit(
-        6,
+        TIME_PAST_END,
         b"Cycle or start time of ",
         calendar::END_OF_TIME,
         b" s or more (the end of 2099)",
         b"Set the clock. A refused start leaves a box at time 0 with codes 0: start it again",
     );
     limit(
-        7,
+        MANY_PULSES,
         b"More than ",
         units::MOST_PULSES,
         b" pulses in one cycle",
@@ -102,27 +117,27 @@ fn of_the_cycle() {
 // Codes, values and commits.
 fn of_the_settings() {
     plain(
-        8,
+        WRONG_CODE,
         b"Lock 2 or 3 opened with a wrong code, also if it is open already",
         b"Get the right code from its owner and open again; the lock stands as it stood",
     );
     plain(
-        9,
+        BAD_VALUE,
         b"Value of the wrong kind or outside its range, or a float not finite",
         b"Take a value from the table below and write again; the session is still open",
     );
     plain(
-        10,
+        LOCK_MISSING,
         b"A lock missing for a staged setting at Commit, or for Clear",
         b"Open the lock it needs (last line of this page). A commit's session has ended: begin, write and commit anew",
     );
     plain(
-        11,
+        STALE,
         b"Stale commit: a setting read in this session was since put in force through the other door",
         b"Begin, read the settings again, work out your value again, write and commit anew",
     );
     plain(
-        12,
+        PAIR_CROSSED,
         b"pMin above pMax, or TMin above TMax, as it would stand after the commit",
         b"Begin, read both ends of the pair, write a Min that is not above its Max, commit anew",
     );
@@ -131,13 +146,13 @@ fn of_the_settings() {
 // A line asked for; and the last row of the card, which is there though no whole state comes to it.
 fn the_last_two() {
     sized(
-        13,
+        NOT_HELD,
         b"The line asked for is not held (at most ",
         b"",
         b"Ask for a lower line number; line 0 is the newest, and a fresh store holds none",
     );
     limit(
-        14,
+        TOO_LARGE,
         b"A cycle's Vb amount of ",
         units::BASE_ROLLOVER,
         b" or more hundred-thousandths of a litre",

@@ -9,7 +9,7 @@ use print::text;
 fn main() {
     text(b"# Hnchakorim: fault card and settings\n\n");
     text(
-        b"Printed by the program `card`, with limits, sizes, ranges, factory values and locks from the device's own rows; not edited by hand.\n\n",
+        b"Printed by the program `card`, with numbers, limits, sizes, ranges, factory values and locks from the device's own rows; not edited by hand.\n\n",
     );
     faults::run();
     text(b"\n");

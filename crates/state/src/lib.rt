@@ -1,4 +1,6 @@
 // The corrector's state: one struct, handed in by value and handed back. What no session holds is the core; each door has its session beside it.
+pub mod faults;
+
 ghost use mathlib.Core.Path.{_≡_};
 ghost use mathlib.Core.Bool.{not, _||_};
 ghost use lib.ListN.{getD, set};
