@@ -1,13 +1,13 @@
 #!/usr/bin/env python3
 """Writes docs/SIZE.md: the lines of each crate, and what its check takes.
 
-    tools/size.py                        counts the lines again; times and memory stay as they stand in the page
-    tools/size.py --measure [NAME ..]    proves the named crates (all of them) again, one after the other, and takes time and memory
+    tools/size.py                       counts the lines again; times and memory stay as they stand in the page
+    tools/size.py --watch COMMAND ..    runs the command, as `.ci/run` or `rt prove`, and takes time and memory of each crate that it proves
 
-A measured crate loses its own results under target/ and is proved by `rt check NAME` over those of the crates below it, which are proved
-before the clock starts. Measure on a machine that does nothing else.
+The time of a crate is what rt says of it, its memory the peak of the prover's process, looked up twice a second. Watch on a machine that does
+nothing else.
 """
-import glob, os, re, shutil, subprocess, sys, tempfile, time
+import glob, os, re, subprocess, sys, threading, time
 
 ROOT = os.path.dirname(os.path.dirname(os.path.abspath(__file__)))
 PAGE = os.path.join(ROOT, "docs", "SIZE.md")
@@ -17,9 +17,9 @@ HEAD = """# How large it is, and what its check takes
 Written by `tools/size.py`; after a change of the sources, run it again. The crates stand in the order of crates.txt, each after those that it uses.
 
 A line counts if it is neither empty nor a comment alone. Code is `src`, definitions are `specs`, proof is `proofs`; of the proof, "walks" are the files that
-tools/walk.py writes (functions over lent stores). An edit is a deliberate mistake under `must-fail` that the prover must refuse. Seconds are those of `rt check`
-on this crate alone, with all below it proved already; of a program they include its run. Memory is the largest resident size of one process of that check.
-"-" is not measured. The code of `calendar` has the table of 1,201 day numbers, one a line.
+tools/walk.py writes (functions over lent stores). An edit is a deliberate mistake under `must-fail` that the prover must refuse. Seconds are those of the crate's
+proof in one run of the gate from nothing, as many crates at a time as there are processors. Memory is the peak of the prover's process. "-" is not measured. The code
+of `calendar` has the table of 1,201 day numbers, one a line.
 
 """
 COLUMNS = ["Crate", "Code", "Definitions", "Proof", "of it walks", "Edits", "Seconds", "Memory, MB"]
@@ -66,7 +66,7 @@ def summed(figures, most=False):
     """The sum of what was measured of every crate, or the most."""
     if "-" in figures:
         return "-"
-    return str(max(map(int, figures)) if most else round(sum(map(float, figures)), 1))
+    return str(max(map(int, figures)) if most else sum(map(int, figures)))
 
 
 def write(taken, when):
@@ -80,57 +80,44 @@ def write(taken, when):
         page.write(HEAD + "\n".join(table) + "\n\nThe last row has the sums, and of memory the most.\n\n" + when + "\n")
 
 
-def run(words):
-    """Runs rt; its status, wall seconds, the peak memory of its processes in MB, and what it said."""
-    with tempfile.TemporaryFile() as said:
-        began = time.monotonic()
-        child = subprocess.Popen(["rt", *words], cwd=ROOT, stdout=said, stderr=subprocess.STDOUT)
-        _, status, used = os.wait4(child.pid, 0)
-        child.returncode = os.waitstatus_to_exitcode(status)
-        seconds = time.monotonic() - began
-        said.seek(0)
-        return child.returncode, seconds, used.ru_maxrss // 1024, said.read().decode(errors="replace")
+def prover():
+    """The crates that are being proved now, each with the peak memory of its process in MB."""
+    for path in glob.glob("/proc/[0-9]*/cmdline"):
+        try:
+            words = open(path, encoding="utf-8", errors="replace").read().split("\0")
+            if os.path.basename(words[0]) == "rattle" and "--crate-name" in words:
+                peak = re.search(r"VmHWM:\s*(\d+)", open(path.replace("cmdline", "status"), encoding="utf-8").read())
+                yield words[words.index("--crate-name") + 1], int(peak.group(1)) // 1024
+        except (OSError, AttributeError):
+            pass  # it has ended meanwhile
 
 
-def forget(name):
-    """Removes a crate's own results, so that it is proved again."""
-    for path in ("stamp/" + name, "rlib/" + name + ".rlib", "obj/" + name + ".o", "bin/" + name):
-        full = os.path.join(ROOT, "target", path)
-        if os.path.isdir(full) and not os.path.islink(full):
-            shutil.rmtree(full)
-        elif os.path.lexists(full):
-            os.remove(full)
+def watch(command):
+    seconds, peaks = {}, {}
+    child = subprocess.Popen(command, cwd=ROOT, stdout=subprocess.PIPE, stderr=subprocess.STDOUT, text=True, errors="replace")
 
+    def look():
+        while child.poll() is None:
+            for name, peak in prover():
+                peaks[name] = max(peaks.get(name, 0), peak)
+            time.sleep(0.5)
 
-def proved(words):
-    status, seconds, memory, said = run(["check", *words])
-    if status:
-        sys.exit("%s\nsize: rt check %s ended with status %d" % (said[-3000:], " ".join(words), status))
-    return seconds, memory
-
-
-def measure(wanted):
-    listed = crates()
-    unknown = [name for name in wanted if name not in listed]
-    if unknown:
-        sys.exit("size: not in crates.txt: " + " ".join(unknown))
-    names = [name for name in listed if name in wanted] or list(listed)
-    for i, name in enumerate(names, 1):
-        if listed[name]:
-            print("size: %s (%d of %d): what it uses" % (name, i, len(names)), flush=True)
-            proved(listed[name])
-        print("size: %s (%d of %d): proving it" % (name, i, len(names)), flush=True)
-        forget(name)
-        seconds, memory = proved([name])
-        print("size: %s took %.1f s and %d MB" % (name, seconds, memory), flush=True)
-        taken, _ = kept()
-        taken[name] = ["%.1f" % seconds, str(memory)]
-        write(taken, "Measured: %s, on %d processors." % (time.strftime("%Y-%m-%d"), os.cpu_count()))
+    threading.Thread(target=look, daemon=True).start()
+    for line in child.stdout:
+        print(line, end="", flush=True)
+        said = re.match(r"rt: (\w+) proved \((\d+) s\)", line)
+        if said:
+            seconds[said.group(1)] = said.group(2)
+    if child.wait():
+        sys.exit("size: %s ended with status %d; the page stays as it is" % (" ".join(command), child.returncode))
+    taken, _ = kept()
+    taken.update({name: [seconds[name], str(peaks.get(name, "-"))] for name in seconds})
+    write(taken, "Measured: %s, on %d processors." % (time.strftime("%Y-%m-%d"), os.cpu_count()))
 
 
 if __name__ == "__main__":
-    if sys.argv[1:2] == ["--measure"]:
-        measure(sys.argv[2:])
+    if sys.argv[1:2] == ["--watch"] and sys.argv[2:]:
+        watch(sys.argv[2:])
     elif sys.argv[1:]:
         sys.exit(__doc__)
     else:
