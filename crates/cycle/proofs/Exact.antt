@@ -15,10 +15,10 @@ use Rattle.settings.specs.declared.Setting.{Setting}
 use Rattle.settings.specs.Settings.{valueAt, settingsFitB}
 use Rattle.settings.proofs.Laws.{pb-in, tb-in, p-min-in, p-max-in, p-f-in, t-f-in, k-f-in}
 use Rattle.temperature.proofs.Nearest.{InRange}
-use Rattle.readings.specs.Compressibility.{kLowest, kHighest}
+use Rattle.ground.specs.Ranges.{leastK, mostK, leastP, mostP, leastPb, mostPb, leastTb, mostTb, zeroCelsius}
 use Rattle.readings.specs.Kelvin.{kelvinOf}
 use Rattle.readings.proofs.Bounds.{Between, pressure-bounds, k-bounds, temperature-in-range, kelvin-bounds, kelvin-is}
-use Rattle.factor.specs.Factor.{numerator, denominator, factorOf, inRange, inRanges}
+use Rattle.factor.specs.Factor.{factorOf, inRange, inRanges}
 use Rattle.factor.proofs.Laws.{taken, within-half, half-goes-up}
 use Rattle.books.specs.declared.ArchiveLine.{ArchiveLine}
 use Rattle.books.specs.declared.LogLine.{LogLine}
@@ -26,16 +26,16 @@ use Rattle.state.specs.declared.State.{State}
 use Rattle.state.specs.State.{wholeB, withCore}
 use Rattle.state.proofs.Sound.{whole-sound}
 use Rattle.cycle.specs.declared.Brought.{Brought}
-use Rattle.cycle.specs.Cycle.{naturalAt, wholeAt, coefficientsIn, temperatureFor, pressureFor, kFor, alarmsFor, factorFor, amountsFor, cycleRefusal, cycledCore, Outcome, cycled, cycleOf}
+use Rattle.cycle.specs.Cycle.{naturalAt, wholeAt, coefficientsIn, temperatureFor, pressureFor, kFor, kelvinFor, numeratorFor, denominatorFor, alarmsFor, factorFor, amountsFor, cycleRefusal, cycledCore, Outcome, cycled, cycleOf}
 
 -- ---- what the settings let a cycle take
 
 module _ (a : List Setting) (e : settingsFitB a ≡ true) (r : Brought) where
-  p-within : Between 10000 10000000 (pressureFor a r .value)
+  p-within : Between leastP mostP (pressureFor a r .value)
   unfolding pressureFor
   p-within =
       let f = p-f-in a e in
-      pressure-bounds 10000 10000000 (naturalAt a 4) (naturalAt a 7) (naturalAt a 8) (naturalAt a 14) (r .pressure) (p-min-in a e .from) (p-max-in a e .upto)
+      pressure-bounds leastP mostP (naturalAt a 4) (naturalAt a 7) (naturalAt a 8) (naturalAt a 14) (r .pressure) (p-min-in a e .from) (p-max-in a e .upto)
       (record { not-below = f .from; not-above = f .upto })
 
   t-within : InRange (temperatureFor a r .value)
@@ -44,7 +44,7 @@ module _ (a : List Setting) (e : settingsFitB a ≡ true) (r : Brought) where
       let f = t-f-in a e in
       temperature-in-range (naturalAt a 5) (wholeAt a 9) (wholeAt a 10) (wholeAt a 15) (coefficientsIn a) (r .raw) (record { not-colder = f .from; not-hotter = f .upto })
 
-  k-within : Between kLowest kHighest (kFor a r .value)
+  k-within : Between leastK mostK (kFor a r .value)
   unfolding kFor
   k-within =
       let f = k-f-in a e in
@@ -56,16 +56,6 @@ range-held low high x b = rw (le-leb low x (b .not-below), le-leb x high (b .not
 
 -- ---- the factor
 
--- T in kelvin, and the fraction of a cycle: p·Tb·10^9 over pb·T·K
-abbrev pub kelvinFor : List Setting → Brought → ℕ
-kelvinFor a r = kelvinOf (temperatureFor a r .value)
-
-abbrev pub numeratorFor : List Setting → Brought → ℕ
-numeratorFor a r = numerator (pressureFor a r .value) (naturalAt a 3)
-
-abbrev pub denominatorFor : List Setting → Brought → ℕ
-denominatorFor a r = denominator (naturalAt a 2) (kelvinFor a r) (kFor a r .value)
-
 module _ (s : State) (w : wholeB s ≡ true) (r : Brought) where
   -- a whole state asks for the factor inside its ranges only
   pub asked-in-ranges : let a = s .core .settings in inRanges (pressureFor a r .value) (naturalAt a 3) (naturalAt a 2) (kelvinFor a r) (kFor a r .value) ≡ true
@@ -75,10 +65,10 @@ module _ (s : State) (w : wholeB s ≡ true) (r : Brought) where
       let e = whole-sound s w .core .fit in
       let x = tb-in a e in
       let y = pb-in a e in
-      rw (range-held _ _ _ (p-within a e r), range-held 27315 29815 (naturalAt a 3) (record { not-below = x .from; not-above = x .upto }), range-held 90000 110000 (naturalAt a 2) (record { not-below = y .from; not-above = y .upto }), range-held _ _ _ (kelvin-bounds (temperatureFor a r .value) (t-within a e r)), range-held _ _ _ (k-within a e r))
+      rw (range-held _ _ _ (p-within a e r), range-held leastTb mostTb (naturalAt a 3) (record { not-below = x .from; not-above = x .upto }), range-held leastPb mostPb (naturalAt a 2) (record { not-below = y .from; not-above = y .upto }), range-held _ _ _ (kelvin-bounds (temperatureFor a r .value) (t-within a e r)), range-held _ _ _ (k-within a e r))
 
   -- T in kelvin is the T taken plus 27,315
-  pub kelvin-exact : let a = s .core .settings in pos (kelvinFor a r) ≡ temperatureFor a r .value +ℤ pos 27315
+  pub kelvin-exact : let a = s .core .settings in pos (kelvinFor a r) ≡ temperatureFor a r .value +ℤ pos zeroCelsius
   kelvin-exact = kelvin-is (temperatureFor (s .core .settings) r .value) (t-within (s .core .settings) (whole-sound s w .core .fit) r)
 
   -- the factor of a cycle is C of the p, T and K taken

@@ -28,7 +28,7 @@ use Rattle.readings.specs.Pressure.{pressureTaken}
 use Rattle.readings.specs.Compressibility.{kTaken}
 use Rattle.readings.specs.Temperature.{temperatureTaken}
 use Rattle.readings.specs.Kelvin.{kelvinOf}
-use Rattle.factor.specs.Factor.{factorTaken}
+use Rattle.factor.specs.Factor.{numerator, denominator, factorTaken}
 use Rattle.books.specs.declared.ArchiveLine.{ArchiveLine}
 use Rattle.books.specs.declared.LogLine.{LogLine}
 use Rattle.state.specs.declared.Counters.{Counters}
@@ -91,8 +91,18 @@ alarmsFor a r = record { p = pressureFor a r .alarm; t = temperatureFor a r .ala
 
 -- ---- 5. Factor: p, Tb, pb, T in kelvin, K
 
+abbrev pub kelvinFor : List Setting → Brought → ℕ
+kelvinFor a r = kelvinOf (temperatureFor a r .value)
+
 unfoldable pub factorFor : List Setting → Brought → ℕ
-factorFor a r = factorTaken (pressureFor a r .value) (naturalAt a 3) (naturalAt a 2) (kelvinOf (temperatureFor a r .value)) (kFor a r .value)
+factorFor a r = factorTaken (pressureFor a r .value) (naturalAt a 3) (naturalAt a 2) (kelvinFor a r) (kFor a r .value)
+
+-- the fraction that the factor of a whole device is the nearest whole number to: p·Tb·10^9 over pb·T·K
+abbrev pub numeratorFor : List Setting → Brought → ℕ
+numeratorFor a r = numerator (pressureFor a r .value) (naturalAt a 3)
+
+abbrev pub denominatorFor : List Setting → Brought → ℕ
+denominatorFor a r = denominator (naturalAt a 2) (kelvinFor a r) (kFor a r .value)
 
 -- ---- 6. Counting
 

@@ -5,6 +5,7 @@ use mathlib.Core.Bool.{true, false}
 use Prim.Native.Nat.{ℕ, _+_, _*_, _≤_, _<_}
 use native.Mathlib.Nat.{add-mul, div-lt-iff-lt-mul}
 use native.Mathlib.Omega.{arith}
+use Rattle.ground.specs.Ranges.{leastK, mostP, leastPb, mostTb, leastKelvin}
 use Rattle.ground.proofs.Flags.{Either, is-true, is-false, either-of}
 use Rattle.factor.specs.Factor.{numerator, denominator, nearestFraction, factorOf, inRange, inRanges, factorTaken}
 use Rattle.factor.proofs.Division.{half-unit, nearest-only, halves-up}
@@ -59,6 +60,6 @@ module _ (p tb pb t k : ℕ) where
       most (is-false e) = rw (not-taken e) (omega arith)
 
 -- and there is a factor that large
-pub most-reached : factorTaken 10000000 29815 90000 17315 5000 ≡ mostFactor
+pub most-reached : factorTaken mostP mostTb leastPb leastKelvin leastK ≡ mostFactor
 unfolding factorTaken inRanges inRange factorOf nearestFraction
 most-reached = refl

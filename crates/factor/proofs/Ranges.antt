@@ -7,7 +7,8 @@ use native.Mathlib.Nat.{mul-le-mul}
 use lib.Dec.{leb}
 use borrow.Author.Tests.{leb-true}
 use Rattle.ground.proofs.Flags.{and-left, and-right}
-use Rattle.factor.specs.Factor.{leastK, mostK, inRange, inRanges, denominator}
+use Rattle.ground.specs.Ranges.{leastK, mostK, leastP, mostP, leastPb, mostPb, leastTb, mostTb, leastKelvin, mostKelvin}
+use Rattle.factor.specs.Factor.{inRange, inRanges, denominator}
 
 pub record Ends (low high x : ℕ) : Type 0 where
   pub least : low ≤ x
@@ -22,30 +23,30 @@ ends low high x e =
     }
 
 pub record Ranges (p tb pb t k : ℕ) : Type 0 where
-  pub of-p : Ends 10000 10000000 p
-  pub of-tb : Ends 27315 29815 tb
-  pub of-pb : Ends 90000 110000 pb
-  pub of-t : Ends 17315 47315 t
+  pub of-p : Ends leastP mostP p
+  pub of-tb : Ends leastTb mostTb tb
+  pub of-pb : Ends leastPb mostPb pb
+  pub of-t : Ends leastKelvin mostKelvin t
   pub of-k : Ends leastK mostK k
 
 pub ranges : (p tb pb t k : ℕ) → inRanges p tb pb t k ≡ true → Ranges p tb pb t k
 unfolding inRanges
 ranges p tb pb t k e =
-    let e2 = and-right (inRange 10000 10000000 p) _ e in
-    let e3 = and-right (inRange 27315 29815 tb) _ e2 in
-    let e4 = and-right (inRange 90000 110000 pb) _ e3 in
+    let e2 = and-right (inRange leastP mostP p) _ e in
+    let e3 = and-right (inRange leastTb mostTb tb) _ e2 in
+    let e4 = and-right (inRange leastPb mostPb pb) _ e3 in
     record {
-      of-p = ends 10000 10000000 p (and-left _ _ e);
-      of-tb = ends 27315 29815 tb (and-left _ _ e2);
-      of-pb = ends 90000 110000 pb (and-left _ _ e3);
-      of-t = ends 17315 47315 t (and-left _ _ e4);
-      of-k = ends leastK mostK k (and-right (inRange 17315 47315 t) _ e4);
+      of-p = ends leastP mostP p (and-left _ _ e);
+      of-tb = ends leastTb mostTb tb (and-left _ _ e2);
+      of-pb = ends leastPb mostPb pb (and-left _ _ e3);
+      of-t = ends leastKelvin mostKelvin t (and-left _ _ e4);
+      of-k = ends leastK mostK k (and-right (inRange leastKelvin mostKelvin t) _ e4);
     }
 
 pub record Products (p tb pb t k : ℕ) : Type 0 where
-  pub top : Ends (10000 * 27315) (10000000 * 29815) (p * tb)
-  pub pair : pb * t ≤ 110000 * 47315
-  pub bottom : Ends (90000 * 17315 * leastK) (110000 * 47315 * mostK) (denominator pb t k)
+  pub top : Ends (leastP * leastTb) (mostP * mostTb) (p * tb)
+  pub pair : pb * t ≤ mostPb * mostKelvin
+  pub bottom : Ends (leastPb * leastKelvin * leastK) (mostPb * mostKelvin * mostK) (denominator pb t k)
 
 pub products : (p tb pb t k : ℕ) → inRanges p tb pb t k ≡ true → Products p tb pb t k
 products p tb pb t k e =

@@ -3,16 +3,7 @@
 use mathlib.Core.Bool.{Bool, cond, _&&_}
 use Prim.Native.Nat.{ℕ, _+_, _*_, _/_}
 use lib.Dec.{leb}
-
--- K comes in ten-thousandths: the number that stands for K = 1, and the ends of K's range
-abbrev pub kScale : ℕ
-kScale = 10000
-
-abbrev pub leastK : ℕ
-leastK = 5000
-
-abbrev pub mostK : ℕ
-mostK = 20000
+use Rattle.ground.specs.Ranges.{kScale, leastK, mostK, leastP, mostP, leastPb, mostPb, leastTb, mostTb, leastKelvin, mostKelvin}
 
 -- the whole number nearest to n / d, halves up
 unfoldable pub nearestFraction : ℕ → ℕ → ℕ
@@ -35,7 +26,7 @@ inRange low high x = leb low x && leb x high
 -- where the factor is asked: p and pb in pascals, Tb and T in hundredths of a kelvin
 unfoldable pub inRanges : ℕ → ℕ → ℕ → ℕ → ℕ → Bool
 inRanges p tb pb t k =
-    inRange 10000 10000000 p && (inRange 27315 29815 tb && (inRange 90000 110000 pb && (inRange 17315 47315 t && inRange leastK mostK k)))
+    inRange leastP mostP p && (inRange leastTb mostTb tb && (inRange leastPb mostPb pb && (inRange leastKelvin mostKelvin t && inRange leastK mostK k)))
 
 -- the factor of a cycle, and 0 outside the ranges, where no whole device asks
 unfoldable pub factorTaken : ℕ → ℕ → ℕ → ℕ → ℕ → ℕ

@@ -1,21 +1,15 @@
 // The conversion factor C = (p/pb)·(Tb/T)·(1/K), in hundred-thousandths, to the nearest whole number.
 // The fraction's numerator passes 64 bits, so it is divided in two steps, as by hand.
+use ground::ranges;
 ghost use mathlib.Core.Path.{_≡_};
 ghost use mathlib.Core.Bool.{true};
 ghost use Prim.Native.Nat.{_*_, _≤_};
 ghost use Rattle.factor.specs.Factor.{inRange, inRanges, nearestFraction, factorOf, factorTaken};
 
-// K comes in ten-thousandths: the number that stands for K = 1, and the ends of the range of K.
-const K_SCALE: u64 = 10000;
-
-const LEAST_K: u64 = 5000;
-
-const MOST_K: u64 = 20000;
-
 // The second step of the division; the first takes all of the numerator but this.
 const SECOND_STEP: u64 = 1000;
 
-const FIRST_STEP: u64 = 100 * K_SCALE;
+const FIRST_STEP: u64 = 100 * ranges::K_SCALE;
 
 fn in_range(low: u64, high: u64, x: u64) -> bool
     ensures { λ r. ⌜ r ≡ inRange low high x ⌝ }
@@ -28,11 +22,11 @@ fn in_range(low: u64, high: u64, x: u64) -> bool
 fn in_ranges(p: u64, tb: u64, pb: u64, t: u64, k: u64) -> bool
     ensures { λ r. ⌜ r ≡ inRanges p tb pb t k ⌝ }
 {
-    let p_good = in_range(10000, 10000000, p);
-    let tb_good = in_range(27315, 29815, tb);
-    let pb_good = in_range(90000, 110000, pb);
-    let t_good = in_range(17315, 47315, t);
-    let k_good = in_range(LEAST_K, MOST_K, k);
+    let p_good = in_range(ranges::LEAST_P, ranges::MOST_P, p);
+    let tb_good = in_range(ranges::LEAST_TB, ranges::MOST_TB, tb);
+    let pb_good = in_range(ranges::LEAST_PB, ranges::MOST_PB, pb);
+    let t_good = in_range(ranges::LEAST_KELVIN, ranges::MOST_KELVIN, t);
+    let k_good = in_range(ranges::LEAST_K, ranges::MOST_K, k);
     let last_two = ground::both(t_good, k_good);
     let last_three = ground::both(pb_good, last_two);
     let last_four = ground::both(tb_good, last_three);

@@ -27,7 +27,8 @@ use Rattle.readings.specs.declared.Taken.{Taken}
 use Rattle.readings.specs.declared.TakenTemperature.{TakenTemperature}
 use Rattle.readings.specs.Taken.{takenWithin}
 use Rattle.readings.specs.Pressure.{pressureTaken, pressureRead}
-use Rattle.readings.specs.Compressibility.{kLowest, kHighest, kTaken, kRead}
+use Rattle.ground.specs.Ranges.{leastK, mostK, zeroCelsius, leastKelvin, mostKelvin}
+use Rattle.readings.specs.Compressibility.{kTaken, kRead}
 use Rattle.readings.specs.Temperature.{measuredTaken, temperatureRead, temperatureTaken}
 use Rattle.readings.specs.Kelvin.{kelvinOf}
 
@@ -59,15 +60,15 @@ module _ (low high : ℕ) where
   pressure-bounds mode lowest highest fixed reading h k b =
       choice (λ (t : Taken). Between low high (t .value)) (eqb mode 0) (λ e. b) (λ e. read-bounds lowest highest fixed reading h k b)
 
-k-read-bounds : (fixed : ℕ) (reading : Compressibility) → Between kLowest kHighest fixed → Between kLowest kHighest (kRead fixed reading .value)
+k-read-bounds : (fixed : ℕ) (reading : Compressibility) → Between leastK mostK fixed → Between leastK mostK (kRead fixed reading .value)
 unfolding kRead
 k-read-bounds fixed NotComputed b = b
-k-read-bounds fixed (Computed k) b = within-bounds kLowest kHighest kLowest kHighest fixed k (le-refl kLowest) (le-refl kHighest) b
+k-read-bounds fixed (Computed k) b = within-bounds leastK mostK leastK mostK fixed k (le-refl leastK) (le-refl mostK) b
 
 -- K.F from the lowest to the highest K: so is K
-pub k-bounds : (mode fixed : ℕ) (reading : Compressibility) → Between kLowest kHighest fixed → Between kLowest kHighest (kTaken mode fixed reading .value)
+pub k-bounds : (mode fixed : ℕ) (reading : Compressibility) → Between leastK mostK fixed → Between leastK mostK (kTaken mode fixed reading .value)
 unfolding kTaken
-k-bounds mode fixed reading b = choice (λ (t : Taken). Between kLowest kHighest (t .value)) (eqb mode 0) (λ e. b) (λ e. k-read-bounds fixed reading b)
+k-bounds mode fixed reading b = choice (λ (t : Taken). Between leastK mostK (t .value)) (eqb mode 0) (λ e. b) (λ e. k-read-bounds fixed reading b)
 
 -- ---- T
 
@@ -91,21 +92,21 @@ temperature-in-range mode lowest highest fixed c reading b =
 
 -- ---- T in kelvin
 
-pub kelvin-bounds : (t : ℤ) → InRange t → Between 17315 47315 (kelvinOf t)
+pub kelvin-bounds : (t : ℤ) → InRange t → Between leastKelvin mostKelvin (kelvinOf t)
 unfolding kelvinOf
 kelvin-bounds (pos n) r =
     let h : n ≤ 20000 = ltb-false 20000 n (r .not-hotter) in
     simp (r .not-hotter) (record { not-below = omega arith; not-above = omega arith })
 kelvin-bounds (negsuc n) r =
     let h : n ≤ 9999 = ltb-false 9999 n (r .not-colder) in
-    let k : ltb 27315 (suc n) ≡ false = le-ltb 27315 (suc n) (omega arith) in
+    let k : ltb zeroCelsius (suc n) ≡ false = le-ltb zeroCelsius (suc n) (omega arith) in
     simp (r .not-colder, k) (record { not-below = omega arith; not-above = omega arith })
 
 -- within -10,000..20,000 it is T plus 27,315, and not the 0 of the rest
-pub kelvin-is : (t : ℤ) → InRange t → pos (kelvinOf t) ≡ t +ℤ pos 27315
+pub kelvin-is : (t : ℤ) → InRange t → pos (kelvinOf t) ≡ t +ℤ pos zeroCelsius
 unfolding kelvinOf
 kelvin-is (pos n) r = simp (r .not-hotter)
 kelvin-is (negsuc n) r =
     let h : n ≤ 9999 = ltb-false 9999 n (r .not-colder) in
-    let k : ltb 27315 (suc n) ≡ false = le-ltb 27315 (suc n) (omega arith) in
+    let k : ltb zeroCelsius (suc n) ≡ false = le-ltb zeroCelsius (suc n) (omega arith) in
     simp (r .not-colder, k)

@@ -3,21 +3,16 @@
 use Prim.Native.Nat.{ℕ}
 use mathlib.Core.Bool.{cond}
 use lib.Dec.{eqb}
+use Rattle.ground.specs.Ranges.{leastK, mostK}
 use Rattle.readings.specs.declared.Taken.{Taken}
 use Rattle.readings.specs.declared.Compressibility.{Compressibility}
 use Rattle.readings.specs.declared.Compressibility.the-variants.{NotComputed, Computed}
 use Rattle.readings.specs.Taken.{noAlarm, alarmWith, takenWithin}
 
-abbrev pub kLowest : ℕ
-kLowest = 5000
-
-abbrev pub kHighest : ℕ
-kHighest = 20000
-
 -- K.F, and the reading
 unfoldable pub kRead : ℕ → Compressibility → Taken
 kRead fixed NotComputed = alarmWith fixed
-kRead fixed (Computed k) = takenWithin kLowest kHighest fixed k
+kRead fixed (Computed k) = takenWithin leastK mostK fixed k
 
 -- Md.K before them
 unfoldable pub kTaken : ℕ → ℕ → Compressibility → Taken

@@ -4,7 +4,7 @@ use Prim.Native.Nat.{ℕ}
 use mathlib.Core.Bool.{_||_, cond}
 use lib.IntN.{ℤ, pos, _+ℤ_, natAbs}
 use lib.Signed.{ltZ}
-use Rattle.temperature.specs.Nearest.{coldest, hottest}
+use Rattle.ground.specs.Ranges.{coldest, hottest, zeroCelsius}
 
 unfoldable pub kelvinOf : ℤ → ℕ
-kelvinOf t = cond (ltZ t coldest || ltZ hottest t) 0 (natAbs (t +ℤ pos 27315))
+kelvinOf t = cond (ltZ t coldest || ltZ hottest t) 0 (natAbs (t +ℤ pos zeroCelsius))

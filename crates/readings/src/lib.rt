@@ -1,22 +1,11 @@
 // The three readings of a cycle: what is taken for p, T and K, and whether the alarm is present.
+use ground::ranges;
 ghost use mathlib.Core.Path.{_≡_};
 ghost use Rattle.readings.specs.Taken.{takenWithin};
 ghost use Rattle.readings.specs.Pressure.{pressureTaken};
 ghost use Rattle.readings.specs.Compressibility.{kTaken};
 ghost use Rattle.readings.specs.Temperature.{temperatureTaken, measuredTaken};
 ghost use Rattle.readings.specs.Kelvin.{kelvinOf};
-
-// What the K board may answer, in ten-thousandths.
-const K_LOWEST: u64 = 5000;
-
-const K_HIGHEST: u64 = 20000;
-
-// The ends of what a temperature may be, and 0 °C in hundredths of a kelvin.
-const COLDEST: i64 = -10000;
-
-const HOTTEST: i64 = 20000;
-
-const ZERO_CELSIUS: i64 = 27315;
 
 pub enum RawTemperature {
     Failed,
@@ -98,7 +87,7 @@ pub fn k_taken(mode: u64, fixed: u64, reading: Compressibility) -> Taken
             value: fixed,
         };
     };
-    taken_within(K_LOWEST, K_HIGHEST, fixed, k)
+    taken_within(ranges::LEAST_K, ranges::MOST_K, fixed, k)
 }
 
 fn measured_taken(
@@ -160,10 +149,10 @@ pub fn temperature_taken(
 pub fn kelvin(t: i64) -> u64
     ensures { λ r. ⌜ r ≡ kelvinOf t ⌝ }
 {
-    let cold = ground::less(t, COLDEST);
-    let hot = ground::less(HOTTEST, t);
+    let cold = ground::less(t, ranges::COLDEST);
+    let hot = ground::less(ranges::HOTTEST, t);
     if ground::either(cold, hot) {
         return 0;
     }
-    (t + ZERO_CELSIUS) as u64
+    (t + ranges::ZERO_CELSIUS) as u64
 }

@@ -7,11 +7,12 @@ use mathlib.Core.List.{List}
 use Prim.Native.Nat.{ℕ, _≤_, _<_}
 use native.Mathlib.Omega.{arith}
 use lib.Dec.{ltb}
-use lib.IntN.{ℤ, pos, negsuc, negℤ}
+use lib.IntN.{ℤ, pos, negsuc}
 use lib.ListN.{length}
 use lib.Signed.{ltZ}
 use borrow.Author.Tests.{ltb-false, not-true}
 use Rattle.ground.specs.Below.{allBelow}
+use Rattle.ground.specs.Ranges.{leastK, mostK, leastP, mostP, leastPb, mostPb, leastTb, mostTb, coldest, hottest}
 use Rattle.ground.proofs.Every.{all-each}
 use Rattle.ground.proofs.Flags.{and-left, and-right, of-T}
 use Rattle.ground.proofs.Table.{at}
@@ -93,30 +94,30 @@ module _ (a : List Setting) (e : settingsFitB a ≡ true) where
   unfolding rowOf rows
   cp-in = natural-at cp 0 4 (omega arith) refl refl refl
 
-  pub pb-in : NaturalIn 90000 110000 (valueAt a pb)
+  pub pb-in : NaturalIn leastPb mostPb (valueAt a pb)
   unfolding rowOf rows
-  pb-in = natural-at pb 90000 110000 (omega arith) refl refl refl
+  pb-in = natural-at pb leastPb mostPb (omega arith) refl refl refl
 
-  pub tb-in : NaturalIn 27315 29815 (valueAt a tb)
+  pub tb-in : NaturalIn leastTb mostTb (valueAt a tb)
   unfolding rowOf rows
-  tb-in = natural-at tb 27315 29815 (omega arith) refl refl refl
+  tb-in = natural-at tb leastTb mostTb (omega arith) refl refl refl
 
-  pub p-min-in : NaturalIn 10000 10000000 (valueAt a pMin)
+  pub p-min-in : NaturalIn leastP mostP (valueAt a pMin)
   unfolding rowOf rows
-  p-min-in = natural-at pMin 10000 10000000 (omega arith) refl refl refl
+  p-min-in = natural-at pMin leastP mostP (omega arith) refl refl refl
 
-  pub p-max-in : NaturalIn 10000 10000000 (valueAt a pMax)
+  pub p-max-in : NaturalIn leastP mostP (valueAt a pMax)
   unfolding rowOf rows
-  p-max-in = natural-at pMax 10000 10000000 (omega arith) refl refl refl
+  p-max-in = natural-at pMax leastP mostP (omega arith) refl refl refl
 
-  pub p-f-in : NaturalIn 10000 10000000 (valueAt a pF)
+  pub p-f-in : NaturalIn leastP mostP (valueAt a pF)
   unfolding rowOf rows
-  p-f-in = natural-at pF 10000 10000000 (omega arith) refl refl refl
+  p-f-in = natural-at pF leastP mostP (omega arith) refl refl refl
 
-  pub t-f-in : WholeIn (negℤ (pos 10000)) (pos 20000) (valueAt a tF)
+  pub t-f-in : WholeIn coldest hottest (valueAt a tF)
   unfolding rowOf rows
   t-f-in = whole-at tF (omega arith) refl
 
-  pub k-f-in : NaturalIn 5000 20000 (valueAt a kF)
+  pub k-f-in : NaturalIn leastK mostK (valueAt a kF)
   unfolding rowOf rows
-  k-f-in = natural-at kF 5000 20000 (omega arith) refl refl refl
+  k-f-in = natural-at kF leastK mostK (omega arith) refl refl refl

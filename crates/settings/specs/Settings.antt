@@ -10,6 +10,7 @@ use lib.IntN.{ℤ, pos, negsuc, negℤ}
 use lib.Signed.{ltZ}
 use lib.Ieee.{Float, nan, inf, fin}
 use Rattle.ground.specs.Below.{allBelow}
+use Rattle.ground.specs.Ranges.{kScale, leastK, mostK, leastP, mostP, leastPb, mostPb, leastTb, mostTb, coldest, hottest}
 use Rattle.settings.specs.declared.Value.{Value}
 use Rattle.settings.specs.declared.Value.the-variants.{Whole, Coefficient}
 use Rattle.settings.specs.declared.Setting.{Setting}
@@ -42,21 +43,21 @@ floatRow first lock = record { coefficient = true; lowest = pos 0; highest = pos
 unfoldable pub rows : List Row
 rows =
     wholeRow (pos 0) (pos 4) (pos 1) cal  -- 1 cp code
-    ∷ wholeRow (pos 90000) (pos 110000) (pos 101325) cal  -- 2 pb, Pa
-    ∷ wholeRow (pos 27315) (pos 29815) (pos 27315) cal  -- 3 Tb, 0.01 K
+    ∷ wholeRow (pos leastPb) (pos mostPb) (pos 101325) cal  -- 2 pb, Pa
+    ∷ wholeRow (pos leastTb) (pos mostTb) (pos 27315) cal  -- 3 Tb, 0.01 K
     ∷ wholeRow (pos 0) (pos 1) (pos 1) cal  -- 4 Md.p
     ∷ wholeRow (pos 0) (pos 1) (pos 1) cal  -- 5 Md.T
     ∷ wholeRow (pos 0) (pos 1) (pos 0) cal  -- 6 Md.K
-    ∷ wholeRow (pos 10000) (pos 10000000) (pos 90000) cal  -- 7 pMin, Pa
-    ∷ wholeRow (pos 10000) (pos 10000000) (pos 700000) cal  -- 8 pMax, Pa
-    ∷ wholeRow (negℤ (pos 10000)) (pos 20000) (negℤ (pos 2000)) cal  -- 9 TMin, 0.01 °C
-    ∷ wholeRow (negℤ (pos 10000)) (pos 20000) (pos 6000) cal  -- 10 TMax, 0.01 °C
+    ∷ wholeRow (pos leastP) (pos mostP) (pos 90000) cal  -- 7 pMin, Pa
+    ∷ wholeRow (pos leastP) (pos mostP) (pos 700000) cal  -- 8 pMax, Pa
+    ∷ wholeRow coldest hottest (negℤ (pos 2000)) cal  -- 9 TMin, 0.01 °C
+    ∷ wholeRow coldest hottest (pos 6000) cal  -- 10 TMax, 0.01 °C
     ∷ floatRow (fin true 5 (pos 3)) cal  -- 11 Eq1.T: -40 is -5 * 2 ^ 3
     ∷ floatRow (fin false 1 (negℤ (pos 7))) cal  -- 12 Eq2.T: 0.0078125 is 2 ^ -7
     ∷ floatRow (fin false 0 (pos 0)) cal  -- 13 Eq3.T: 0
-    ∷ wholeRow (pos 10000) (pos 10000000) (pos 101325) sup  -- 14 p.F, Pa
-    ∷ wholeRow (negℤ (pos 10000)) (pos 20000) (pos 1500) sup  -- 15 T.F, 0.01 °C
-    ∷ wholeRow (pos 5000) (pos 20000) (pos 10000) sup  -- 16 K.F, 0.0001
+    ∷ wholeRow (pos leastP) (pos mostP) (pos 101325) sup  -- 14 p.F, Pa
+    ∷ wholeRow coldest hottest (pos 1500) sup  -- 15 T.F, 0.01 °C
+    ∷ wholeRow (pos leastK) (pos mostK) (pos kScale) sup  -- 16 K.F, 0.0001
     ∷ wholeRow (pos 5000) (pos 14000) (pos 11000) sup  -- 17 Ho.b, 0.001 kWh/m³
     ∷ wholeRow (pos 0) (pos 3000) (pos 100) sup  -- 18 CO2, 0.01 %
     ∷ wholeRow (pos 0) (pos 1000) (pos 0) sup  -- 19 H2, 0.01 %

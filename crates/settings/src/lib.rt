@@ -24,6 +24,7 @@ ghost use Rattle.settings.specs.Settings.{
 use ground::both;
 use ground::either;
 use ground::less;
+use ground::ranges;
 
 // How many settings there are.
 pub const COUNT: usize = 21;
@@ -98,16 +99,16 @@ const ROWS: [Row; COUNT] = [
     // 2 pb, Pa
     Row {
         coefficient: false,
-        lowest: 90_000,
-        highest: 110_000,
+        lowest: ranges::LEAST_PB as i64,
+        highest: ranges::MOST_PB as i64,
         factory: Value::Whole(101_325),
         lock: CAL,
     },
     // 3 Tb, 0.01 K
     Row {
         coefficient: false,
-        lowest: 27_315,
-        highest: 29_815,
+        lowest: ranges::LEAST_TB as i64,
+        highest: ranges::MOST_TB as i64,
         factory: Value::Whole(27_315),
         lock: CAL,
     },
@@ -138,32 +139,32 @@ const ROWS: [Row; COUNT] = [
     // 7 pMin, Pa
     Row {
         coefficient: false,
-        lowest: 10_000,
-        highest: 10_000_000,
+        lowest: ranges::LEAST_P as i64,
+        highest: ranges::MOST_P as i64,
         factory: Value::Whole(90_000),
         lock: CAL,
     },
     // 8 pMax, Pa
     Row {
         coefficient: false,
-        lowest: 10_000,
-        highest: 10_000_000,
+        lowest: ranges::LEAST_P as i64,
+        highest: ranges::MOST_P as i64,
         factory: Value::Whole(700_000),
         lock: CAL,
     },
     // 9 TMin, 0.01 °C
     Row {
         coefficient: false,
-        lowest: -10_000,
-        highest: 20_000,
+        lowest: ranges::COLDEST,
+        highest: ranges::HOTTEST,
         factory: Value::Whole(-2_000),
         lock: CAL,
     },
     // 10 TMax, 0.01 °C
     Row {
         coefficient: false,
-        lowest: -10_000,
-        highest: 20_000,
+        lowest: ranges::COLDEST,
+        highest: ranges::HOTTEST,
         factory: Value::Whole(6_000),
         lock: CAL,
     },
@@ -194,25 +195,25 @@ const ROWS: [Row; COUNT] = [
     // 14 p.F, Pa
     Row {
         coefficient: false,
-        lowest: 10_000,
-        highest: 10_000_000,
+        lowest: ranges::LEAST_P as i64,
+        highest: ranges::MOST_P as i64,
         factory: Value::Whole(101_325),
         lock: SUP,
     },
     // 15 T.F, 0.01 °C
     Row {
         coefficient: false,
-        lowest: -10_000,
-        highest: 20_000,
+        lowest: ranges::COLDEST,
+        highest: ranges::HOTTEST,
         factory: Value::Whole(1_500),
         lock: SUP,
     },
     // 16 K.F, 0.0001
     Row {
         coefficient: false,
-        lowest: 5_000,
-        highest: 20_000,
-        factory: Value::Whole(10_000),
+        lowest: ranges::LEAST_K as i64,
+        highest: ranges::MOST_K as i64,
+        factory: Value::Whole(ranges::K_SCALE as i64),
         lock: SUP,
     },
     // 17 Ho.b, 0.001 kWh/m³

@@ -13,7 +13,8 @@ use lib.Signed.{ltZ}
 use lib.Ieee.{Float, nan, inf, fin, up, down}
 use lib.Ieee.Fits.{down-pos}
 use Rattle.temperature.specs.declared.Measured.the-variants.{Failed, Hundredths}
-use Rattle.temperature.specs.Nearest.{coldest, hottest, inRange, nearestSize, signed, nearestOf}
+use Rattle.ground.specs.Ranges.{coldest, hottest}
+use Rattle.temperature.specs.Nearest.{inRange, nearestSize, signed, nearestOf}
 
 -- z is the whole number nearest the value of size n / d and sign s, halves away from zero
 pub record IsNearest (s : Bool) (n d : ℕ) (z : ℤ) : Type 0 where

@@ -5,22 +5,16 @@
 use Prim.Native.Nat.{ℕ, _+_, _*_, _/_}
 use mathlib.Core.Bool.{Bool, true, false, cond}
 use lib.Dec.{leb}
-use lib.IntN.{ℤ, pos, negsuc, negℤ}
+use lib.IntN.{ℤ, pos, negℤ, natAbs}
 use lib.Ieee.{Float, nan, inf, fin, up, down}
+use Rattle.ground.specs.Ranges.{coldest, hottest}
 use Rattle.temperature.specs.declared.Measured.{Measured}
 use Rattle.temperature.specs.declared.Measured.the-variants.{Failed, Hundredths}
 
--- the ends of the range, in hundredths of a degree: -10,000 and 20,000
-abbrev pub coldest : ℤ
-coldest = negsuc 9999
-
-abbrev pub hottest : ℤ
-hottest = pos 20000
-
 -- n / d with the sign s is within -10,000..20,000, after multiplying out
 abbrev pub inRange : Bool → ℕ → ℕ → Bool
-inRange false n d = leb n (20000 * d)
-inRange true n d = leb n (10000 * d)
+inRange false n d = leb n (natAbs hottest * d)
+inRange true n d = leb n (natAbs coldest * d)
 
 -- the whole number nearest n / d, of two equally near the larger: the whole part of n / d + 1 / 2
 abbrev pub nearestSize : ℕ → ℕ → ℕ

@@ -1,12 +1,13 @@
 // T.Mes: the raw temperature through the temperature equation, and the nearest hundredth of a degree.
+use ground::ranges;
 ghost use mathlib.Core.Path.{_≡_};
 ghost use Rattle.temperature.specs.Equation.{equationOf};
 ghost use Rattle.temperature.specs.Nearest.{nearestOf};
 
 // The ends of what a temperature may be, in hundredths of a degree. Both are floats exactly.
-const COLDEST: f64 = -10000.0;
+const COLDEST: f64 = ranges::COLDEST as f64;
 
-const HOTTEST: f64 = 20000.0;
+const HOTTEST: f64 = ranges::HOTTEST as f64;
 
 // Eq1.T, Eq2.T and Eq3.T, which travel together as one set.
 pub struct Coefficients {

@@ -4,7 +4,8 @@ use mathlib.Core.Path.{ap, _∙_}
 use Prim.Native.Nat.{ℕ, _*_}
 use native.Mathlib.Nat.{mul-assoc}
 use native.Mathlib.Omega.{arith}
-use Rattle.factor.specs.Factor.{kScale, nearestFraction, denominator, factorOf}
+use Rattle.ground.specs.Ranges.{kScale}
+use Rattle.factor.specs.Factor.{nearestFraction, denominator, factorOf}
 use Rattle.factor.proofs.Ranges.{products}
 use Rattle.factor.proofs.factor.Statement.{statement}
 use Rattle.factor.proofs.factor.Tie as tie

@@ -8,7 +8,7 @@ use lib.Signed.{ltZ}
 use mir.Facts.{sfits-lit}
 use Rattle.ground.proofs.Flags.{or-false-left, or-false-right}
 use Rattle.ground.proofs.Signed.{lt-back, Cast, cast, shifted}
-use Rattle.temperature.specs.Nearest.{coldest, hottest}
+use Rattle.ground.specs.Ranges.{coldest, hottest, zeroCelsius}
 use Rattle.readings.specs.Kelvin.{kelvinOf}
 use Rattle.readings.proofs.kelvin.Statement.{statement}
 use Rattle.readings.proofs.kelvin.Tie as tie
