@@ -23,9 +23,8 @@ use Rattle.state.specs.State.{noSession, noAlarm, nothingCounted, shutLocks, fr
 use Rattle.cycle.specs.Cycle.{monthsFrom, monthsCrossed, archiveLine, monthLines, coefficientsIn, temperatureFor, pressureFor, kFor, alarmsFor, factorFor, amountsFor, isTooLarge, anyAlarm, counted, latchesAfter, changes, cycleRefusal, cycledCore, cycled, cycleOf}
 use Rattle.panel.specs.Panel.{lockIn, withLock, rightCode, turnCodes, turnedCore, turned, openRefusal, openOf}
 use Rattle.doors.specs.Doors.{sessionAt, otherAt, placed, withSession, cellAt, withCell, begun, beginRefusal, beginOf, readRefusal, valueRead, markedRead, readAfter, readOf, writeRefusal, stagedCell, writeAfter, writeOf, missingAt, lockMissing, overtakenAt, staleB, standsAt, asStand, commitRefusal, lineFor, auditOf, commitLines, markedBy, overtakenBy, overtakenSession, committedCore, committed, refusedCommit, commitOf}
-use Rattle.cases.specs.Runs.{blank, told, ran, monthsHeld}
-use Rattle.cases.specs.Cases.{sameWhole, sameMeasured, sameNumbers, sameFlag, sameAlarms, sameCounters, ranTo, holds, allHold, factoryDevice, withVm, table}
+use Rattle.cases.specs.Cases.{sameWhole, sameMeasured, sameNumbers, sameFlag, sameAlarms, sameCounters, blank, monthsHeld, ranTo, holds, allHold, factoryDevice, withVm, table}
 
 pub every-row-holds : allHold table ≡ true
-unfolding ofBits ofInt add mul allBelow anyBelow leapYear daysIn daysOf firstDay monthStart lastBegun monthOf litresShown baseShown plusLitres plusBase pulseLitres convertedOf amountsOf rows rowOf isFinite withinB fitsRow fitsB factoryOf factorySettings opensB rightB fitsAt settingsFitB inOrder orderedB nearestFraction factorOf inRange inRanges factorTaken equationOf nearestOf takenWithin pressureRead pressureTaken kRead kTaken measuredTaken temperatureRead temperatureTaken kelvinOf ringAfter bookAfter onFrom slotAfter lineNumber advancedRing advancedBook placeOf ringB numberB bookB listed stored written lineAt heldLines numbered logged noSession noAlarm nothingCounted shutLocks freshCore fresh countersB latchedB storesB cellB cellsB sessionB coreB wholeB withCore monthsFrom monthsCrossed archiveLine monthLines coefficientsIn temperatureFor pressureFor kFor alarmsFor factorFor amountsFor isTooLarge anyAlarm counted latchesAfter changes cycleRefusal cycledCore cycled cycleOf lockIn withLock rightCode turnCodes turnedCore turned openRefusal openOf sessionAt otherAt placed withSession cellAt withCell begun beginRefusal beginOf readRefusal valueRead markedRead readAfter readOf writeRefusal stagedCell writeAfter writeOf missingAt lockMissing overtakenAt staleB standsAt asStand commitRefusal lineFor auditOf commitLines markedBy overtakenBy overtakenSession committedCore committed refusedCommit commitOf blank told ran monthsHeld sameWhole sameMeasured sameNumbers sameFlag sameAlarms sameCounters ranTo holds allHold factoryDevice withVm table
+unfolding ofBits ofInt add mul allBelow anyBelow leapYear daysIn daysOf firstDay monthStart lastBegun monthOf litresShown baseShown plusLitres plusBase pulseLitres convertedOf amountsOf rows rowOf isFinite withinB fitsRow fitsB factoryOf factorySettings opensB rightB fitsAt settingsFitB inOrder orderedB nearestFraction factorOf inRange inRanges factorTaken equationOf nearestOf takenWithin pressureRead pressureTaken kRead kTaken measuredTaken temperatureRead temperatureTaken kelvinOf ringAfter bookAfter onFrom slotAfter lineNumber advancedRing advancedBook placeOf ringB numberB bookB listed stored written lineAt heldLines numbered logged noSession noAlarm nothingCounted shutLocks freshCore fresh countersB latchedB storesB cellB cellsB sessionB coreB wholeB withCore monthsFrom monthsCrossed archiveLine monthLines coefficientsIn temperatureFor pressureFor kFor alarmsFor factorFor amountsFor isTooLarge anyAlarm counted latchesAfter changes cycleRefusal cycledCore cycled cycleOf lockIn withLock rightCode turnCodes turnedCore turned openRefusal openOf sessionAt otherAt placed withSession cellAt withCell begun beginRefusal beginOf readRefusal valueRead markedRead readAfter readOf writeRefusal stagedCell writeAfter writeOf missingAt lockMissing overtakenAt staleB standsAt asStand commitRefusal lineFor auditOf commitLines markedBy overtakenBy overtakenSession committedCore committed refusedCommit commitOf sameWhole sameMeasured sameNumbers sameFlag sameAlarms sameCounters blank monthsHeld ranTo holds allHold factoryDevice withVm table
 every-row-holds = refl

@@ -2,11 +2,13 @@
 -- asks, with the answer that the paper gives. A new kind of row is a constructor of `Case` and a clause of `holds`.
 -- Assumes nothing.
 use mathlib.Core.Bool.{Bool, true, false, not, _&&_}
-use mathlib.Core.List.{List, [], _∷_}
+use mathlib.Core.List.{List, [], _∷_, map}
 use Prim.Native.Nat.{ℕ}
 use lib.Dec.{eqb}
 use lib.IntN.{ℤ, pos, negsuc, negℤ}
 use lib.Ieee.{Float, fin, binary64, ofBits}
+use lib.ListN.{replicate}
+use Rattle.order.specs.Order.{run}
 use Rattle.units.specs.Units.{litresOf}
 use Rattle.settings.specs.Settings.{factorySettings}
 use Rattle.settings.specs.declared.Value.the-variants.{Whole}
@@ -20,13 +22,17 @@ use Rattle.temperature.specs.Nearest.{nearestOf}
 use Rattle.readings.specs.declared.RawTemperature.the-variants.{Raw}
 use Rattle.readings.specs.declared.Pressure.the-variants.{Pascals}
 use Rattle.readings.specs.declared.Compressibility.the-variants.{NotComputed}
+use Rattle.ring.specs.Ring.{archiveLines, logLines, auditLines}
+use Rattle.ring.specs.Store.{heldLines}
+use Rattle.books.specs.declared.ArchiveLine.{ArchiveLine}
+use Rattle.books.specs.Books.{noArchive, noLog, noAudit}
 use Rattle.state.specs.declared.Counters.{Counters}
 use Rattle.state.specs.declared.Alarms.{Alarms}
 use Rattle.state.specs.declared.Core.{Core}
 use Rattle.state.specs.declared.State.{State}
 use Rattle.state.specs.State.{fresh, withCore}
 use Rattle.cycle.specs.Cycle.{coefficientsIn}
-use Rattle.cases.specs.Runs.{Command, Cycle, OpenLock, Begin, Read, Write, Commit, Device, blank, Ran, ran, monthsHeld}
+use Rattle.runs.specs.Run.{Step, cycle, openLock, begin, commit, read, write, World, Reply, numberOf, corrector}
 
 -- ---- what a row can ask
 
@@ -37,14 +43,14 @@ pub data Case : Type 0 where
   nearestCase : Float → Measured → Case
   -- T.Mes by the three coefficients and a raw temperature, and the answer
   measuredCase : Coefficients → ℕ → Measured → Case
-  -- a device with blank stores, the commands that it is given, and the numbers of the answers in turn
-  runCase : State → List Command → List ℕ → Case
-  -- the same, and after the last command the four counters: Vm, VmD, Vb, VbD
-  countersCase : State → List Command → List ℕ → ℕ → ℕ → ℕ → ℕ → Case
+  -- a device with blank stores, the steps of its run, and the numbers of the answers in turn
+  runCase : State → List Step → List ℕ → Case
+  -- the same, and after the last step the four counters: Vm, VmD, Vb, VbD
+  countersCase : State → List Step → List ℕ → ℕ → ℕ → ℕ → ℕ → Case
   -- or the alarms present: p, T, K
-  alarmsCase : State → List Command → List ℕ → Bool → Bool → Bool → Case
+  alarmsCase : State → List Step → List ℕ → Bool → Bool → Bool → Case
   -- or the months of the archive lines held, newest first
-  monthsCase : State → List Command → List ℕ → List ℕ → Case
+  monthsCase : State → List Step → List ℕ → List ℕ → Case
 
 pub record Row : Type 0 where
   pub number : ℕ
@@ -85,18 +91,28 @@ sameCounters c vm vmd vb vbd = eqb (c .vm .0) vm && eqb (c .vmd .0) vmd && eqb (
 
 -- ---- when a row holds
 
--- the answers' numbers, and the test of what is seen at the end
-unfoldable pub ranTo : Ran → List ℕ → (Device → Bool) → Bool
-ranTo x numbers seen = sameNumbers (x .numbers) numbers && seen (x .device)
+-- the stores before any line was written
+unfoldable pub blank : State → World
+blank s = record { state = s; archive = replicate archiveLines noArchive; log = replicate logLines noLog; audit = replicate auditLines noAudit }
+
+-- the months of the archive lines held, newest first
+unfoldable pub monthsHeld : World → List ℕ
+monthsHeld w = map (λ (l : ArchiveLine). l .month) (heldLines archiveLines noArchive (w .state .core .archive) (w .archive))
+
+-- a run: the numbers of its answers, and the test of what is seen at the end
+unfoldable pub ranTo : State → List Step → List ℕ → (World → Bool) → Bool
+ranTo s steps numbers seen =
+    let ran = run corrector steps (blank s) in
+    sameNumbers (map (λ (a : Reply). numberOf a) (ran .0)) numbers && seen (ran .1)
 
 unfoldable pub holds : Case → Bool
 holds (factorCase p tb pb t k answer) = eqb (factorTaken p tb pb t k) answer
 holds (nearestCase x answer) = sameMeasured (nearestOf x) answer
 holds (measuredCase c raw answer) = sameMeasured (nearestOf (equationOf c raw)) answer
-holds (runCase s commands numbers) = ranTo (ran (blank s) commands) numbers (λ d. true)
-holds (countersCase s commands numbers vm vmd vb vbd) = ranTo (ran (blank s) commands) numbers (λ d. sameCounters (d .state .core .counters) vm vmd vb vbd)
-holds (alarmsCase s commands numbers p t k) = ranTo (ran (blank s) commands) numbers (λ d. sameAlarms (d .state .core .alarms) p t k)
-holds (monthsCase s commands numbers months) = ranTo (ran (blank s) commands) numbers (λ d. sameNumbers (monthsHeld d) months)
+holds (runCase s steps numbers) = ranTo s steps numbers (λ w. true)
+holds (countersCase s steps numbers vm vmd vb vbd) = ranTo s steps numbers (λ w. sameCounters (w .state .core .counters) vm vmd vb vbd)
+holds (alarmsCase s steps numbers p t k) = ranTo s steps numbers (λ w. sameAlarms (w .state .core .alarms) p t k)
+holds (monthsCase s steps numbers months) = ranTo s steps numbers (λ w. sameNumbers (monthsHeld w) months)
 
 unfoldable pub allHold : List Row → Bool
 allHold [] = true
@@ -124,8 +140,8 @@ withVm c vm = record {
 }
 
 -- a cycle at a time, of n pulses, raw 7,680 and a pressure in pascals; K is not computed
-abbrev pub aCycle : ℕ → ℕ → ℕ → Command
-aCycle time n p = Cycle (record { time = time; n = n; raw = Raw 7680; pressure = Pascals p; k = NotComputed })
+abbrev pub aCycle : ℕ → ℕ → ℕ → Step
+aCycle time n p = cycle (record { time = time; n = n; raw = Raw 7680; pressure = Pascals p; k = NotComputed })
 
 -- ---- the table
 
@@ -154,10 +170,10 @@ table =
     ∷ row 9 (monthsCase factoryDevice (aCycle 3155760000 0 202650 ∷ []) (6 ∷ []) [])
     ∷ row 10 (countersCase factoryDevice (aCycle 60 600 202650 ∷ []) (0 ∷ []) 60000 0 11181300000 0)
     ∷ row 10 (countersCase factoryDevice (aCycle 60 601 202650 ∷ []) (7 ∷ []) 0 0 0 0)
-    ∷ row 11 (runCase factoryDevice (OpenLock 2 1111 ∷ Begin 1 ∷ Read 1 16 ∷ Begin 2 ∷ Write 2 16 (Whole (pos 9900)) ∷ Commit 2 ∷ Write 1 14 (Whole (pos 200000)) ∷ Commit 1 ∷ [])
+    ∷ row 11 (runCase factoryDevice (openLock 2 1111 ∷ begin 1 ∷ read 1 16 ∷ begin 2 ∷ write 2 16 (Whole (pos 9900)) ∷ commit 2 ∷ write 1 14 (Whole (pos 200000)) ∷ commit 1 ∷ [])
     (0 ∷ 0 ∷ 0 ∷ 0 ∷ 0 ∷ 0 ∷ 0 ∷ 11 ∷ []))
-    ∷ row 11 (runCase factoryDevice (OpenLock 2 1111 ∷ Begin 1 ∷ Begin 2 ∷ Write 2 16 (Whole (pos 9900)) ∷ Commit 2 ∷ Write 1 14 (Whole (pos 200000)) ∷ Commit 1 ∷ [])
+    ∷ row 11 (runCase factoryDevice (openLock 2 1111 ∷ begin 1 ∷ begin 2 ∷ write 2 16 (Whole (pos 9900)) ∷ commit 2 ∷ write 1 14 (Whole (pos 200000)) ∷ commit 1 ∷ [])
     (0 ∷ 0 ∷ 0 ∷ 0 ∷ 0 ∷ 0 ∷ 0 ∷ []))  -- without the read
-    ∷ row 12 (runCase factoryDevice (OpenLock 1 0 ∷ Begin 1 ∷ Write 1 8 (Whole (pos 80000)) ∷ Commit 1 ∷ []) (0 ∷ 0 ∷ 0 ∷ 12 ∷ []))
-    ∷ row 12 (runCase factoryDevice (OpenLock 1 0 ∷ Begin 1 ∷ Write 1 8 (Whole (pos 80000)) ∷ Write 1 7 (Whole (pos 80000)) ∷ Commit 1 ∷ []) (0 ∷ 0 ∷ 0 ∷ 0 ∷ 0 ∷ []))
+    ∷ row 12 (runCase factoryDevice (openLock 1 0 ∷ begin 1 ∷ write 1 8 (Whole (pos 80000)) ∷ commit 1 ∷ []) (0 ∷ 0 ∷ 0 ∷ 12 ∷ []))
+    ∷ row 12 (runCase factoryDevice (openLock 1 0 ∷ begin 1 ∷ write 1 8 (Whole (pos 80000)) ∷ write 1 7 (Whole (pos 80000)) ∷ commit 1 ∷ []) (0 ∷ 0 ∷ 0 ∷ 0 ∷ 0 ∷ []))
     ∷ []

@@ -1,3 +1,2 @@
 -- The cases by hand.
-pub mod Runs
 pub mod Cases
