@@ -5,10 +5,10 @@ use mathlib.Core.Path.{_≡_, refl, sym, ap, _∙_}
 use mathlib.Core.Bool.{Bool, true, false, cond, _&&_}
 use mathlib.Core.Logic.{_↔_}
 use mathlib.Core.List.{[], _∷_}
-use Prim.Native.Nat.{ℕ, _<_, _≤_}
+use Prim.Native.Nat.{ℕ, zero, suc, _<_, _≤_}
 use native.Mathlib.Omega.{arith}
 use lib.Dec.{ltb, leb, eqb}
-use borrow.Author.Tests.{eqb-true, leb-true, ne-eqb}
+use borrow.Author.Tests.{eqb-true, ltb-true, lt-ltb, leb-true, ne-eqb}
 use Rattle.ground.proofs.Flags.{and-left, and-right}
 use Rattle.ring.specs.Ring.{auditLines}
 use Rattle.ring.specs.Store.{written}
@@ -18,7 +18,7 @@ use Rattle.asked.specs.Asked.{lineRefusal}
 use Rattle.cycle.specs.Cycle.{Outcome, cycleRefusal, cycled, cycleOf}
 use Rattle.panel.specs.Panel.{Logged, turned, openRefusal, openOf, shutRefusal, shutOf, clearRefusal, cleared, clearOf, reportRefusal, reportOf, logLineOf, archiveLineOf}
 use Rattle.doors.specs.Doors.{Audited, placed, withSession, begun, beginRefusal, beginOf, abandonRefusal, abandonOf, readRefusal, readAfter, readOf, writeRefusal, writeAfter, writeOf, commitRefusal, commitLines, committed, refusedCommit, commitOf, auditLineOf, auditAnswered}
-use Rattle.runs.specs.Exactly.{Rows, applies, Given, orderlyB}
+use Rattle.runs.specs.Exactly.{Rows, applies, listsNumber, Given, orderlyB}
 use Rattle.runs.specs.Rows.{rowsOf, printedAfter, lastNumber, placeInTable, withState, refusedBy, refusalOf}
 use Rattle.runs.specs.Run.{Step, cycle, openLock, shutLock, clear, report, archiveLine, logLine, auditLine, begin, abandon, commit, read, write, World, Reply, plain, numberOf, cycles, logs, audits, step}
 use Rattle.runs.proofs.Exactly.{exactly, done-exactly}
@@ -116,20 +116,43 @@ printed (commit door) w = refl
 printed (read door setting) w = refl
 printed (write door setting v) w = refl
 
+-- what that says of a first row and of those after it
+module _ (k : ℕ) (x : ℕ × Bool) (xs : Rows) (e : printedAfter k (x ∷ xs) ≡ true) where
+  its-place : k < placeInTable (x .0)
+  its-place = ltb-true k (placeInTable (x .0)) (and-left (ltb k (placeInTable (x .0))) _ e)
+
+  no-later : (leb (x .0) lastNumber && printedAfter (placeInTable (x .0)) xs) ≡ true
+  no-later = and-right (ltb k (placeInTable (x .0))) _ e
+
+  listed : x .0 ≤ lastNumber
+  listed = leb-true (x .0) lastNumber (and-left (leb (x .0) lastNumber) _ no-later)
+
+  others : printedAfter (placeInTable (x .0)) xs ≡ true
+  others = and-right (leb (x .0) lastNumber) _ no-later
+
+-- no number is 0
+above-zero : (n k : ℕ) → k < placeInTable n → 0 < n
+above-zero zero k l = absurd (omega arith)
+above-zero (suc n) k l = omega arith
+
+-- and none comes again, once its place is passed
+passed : (n k : ℕ) (xs : Rows) → placeInTable n ≤ k → printedAfter k xs ≡ true → listsNumber n xs ≡ false
+passed n k [] l e = refl
+passed n k (x ∷ xs) l e =
+    let place : k < placeInTable (x .0) = its-place k x xs e in
+    let another : x .0 ≡ n → ⊥ = λ same. let p : placeInTable (x .0) ≡ placeInTable n = ap placeInTable same in omega arith in
+    rw (ne-eqb (x .0) n another) (passed n (placeInTable (x .0)) xs (omega arith) (others k x xs e))
+
+orderly-after : (k : ℕ) (xs : Rows) → printedAfter k xs ≡ true → orderlyB xs ≡ true
+orderly-after k [] e = refl
+orderly-after k (x ∷ xs) e =
+    let place : ℕ = placeInTable (x .0) in
+    let some : ltb 0 (x .0) ≡ true = lt-ltb 0 (x .0) (above-zero (x .0) k (its-place k x xs e)) in
+    let alone : listsNumber (x .0) xs ≡ false = passed (x .0) place xs (omega arith) (others k x xs e) in
+    rw (some, alone) (orderly-after place xs (others k x xs e))
+
 pub orderly : (x : Step) (w : World) → orderlyB (rowsOf x w) ≡ true
-orderly (cycle r) w = refl
-orderly (openLock lock code) w = refl
-orderly (shutLock lock) w = refl
-orderly clear w = refl
-orderly report w = refl
-orderly (archiveLine i) w = refl
-orderly (logLine i) w = refl
-orderly (auditLine i) w = refl
-orderly (begin door) w = refl
-orderly (abandon door) w = refl
-orderly (commit door) w = refl
-orderly (read door setting) w = refl
-orderly (write door setting v) w = refl
+orderly x w = orderly-after 0 (rowsOf x w) (printed x w)
 
 few-by : (b : Bool) (n rest : ℕ) → n ≤ lastNumber → rest ≤ lastNumber → cond b n rest ≤ lastNumber
 few-by true n rest p q = p
@@ -137,9 +160,7 @@ few-by false n rest p q = q
 
 few : (k : ℕ) (xs : Rows) → printedAfter k xs ≡ true → firstOf xs ≤ lastNumber
 few k [] e = omega arith
-few k (x ∷ xs) e =
-    let r = and-right (ltb k (placeInTable (x .0))) (leb (x .0) lastNumber && printedAfter (placeInTable (x .0)) xs) e in
-    few-by (x .1) (x .0) (firstOf xs) (leb-true (x .0) lastNumber (and-left (leb (x .0) lastNumber) _ r)) (few (placeInTable (x .0)) xs (and-right (leb (x .0) lastNumber) _ r))
+few k (x ∷ xs) e = few-by (x .1) (x .0) (firstOf xs) (listed k x xs e) (few (placeInTable (x .0)) xs (others k x xs e))
 
 -- THE NUMBER IS IN THE PRINTED TABLE
 pub in-table : (x : Step) (w : World) → numberOf ((step x w) .1) ≤ lastNumber
