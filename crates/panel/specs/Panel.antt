@@ -17,12 +17,12 @@ use Rattle.state.specs.declared.Locks.{Locks}
 use Rattle.state.specs.declared.Core.{Core}
 use Rattle.state.specs.declared.State.{State}
 use Rattle.state.specs.declared.Answer.{Answer}
+use Rattle.state.specs.declared.Moment.{Moment}
 use Rattle.state.specs.State.{fresh, wholeB}
 use Rattle.state.specs.Card.{firstOf}
 use Rattle.ring.specs.Store.{written}
 use Rattle.notes.specs.Notes.{keep, logged}
 use Rattle.asked.specs.Asked.{answered, slotOf, lineRefusal}
-use Rattle.panel.specs.declared.Moment.{Moment}
 use Rattle.panel.specs.declared.ReportAnswer.{ReportAnswer}
 use Rattle.panel.specs.declared.LogAnswer.{LogAnswer}
 use Rattle.panel.specs.declared.ArchiveAnswer.{ArchiveAnswer}

@@ -11,11 +11,11 @@ use Rattle.books.specs.declared.ArchiveLine.{ArchiveLine}
 use Rattle.books.specs.declared.LogLine.{LogLine}
 use Rattle.books.specs.declared.AuditLine.{AuditLine}
 use Rattle.state.specs.declared.Answer.{Answer}
+use Rattle.state.specs.declared.Moment.{Moment}
 use Rattle.state.specs.declared.State.{State}
 use Rattle.state.specs.State.{noSession}
 use Rattle.cycle.specs.declared.Brought.{Brought}
 use Rattle.cycle.specs.Cycle.{Outcome, cycleOf}
-use Rattle.panel.specs.declared.Moment.{Moment}
 use Rattle.panel.specs.declared.ReportAnswer.{ReportAnswer}
 use Rattle.panel.specs.declared.LogAnswer.{LogAnswer}
 use Rattle.panel.specs.declared.ArchiveAnswer.{ArchiveAnswer}

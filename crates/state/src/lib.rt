@@ -74,6 +74,19 @@ pub struct Answer {
     pub state: State,
 }
 
+// What one moment shows: time, counters, totals, alarms, latches and locks.
+pub struct Moment {
+    pub time: u64,
+    pub counters: Counters,
+    pub vmt: units::Litres,
+    pub vbt: units::BaseUnits,
+    pub alarms: Alarms,
+    pub latches: Alarms,
+    pub cal: bool,
+    pub sup: bool,
+    pub cust: bool,
+}
+
 // ---- a fresh device
 
 pub fn cell_at(a: [Cell; settings::COUNT], k: usize) -> Cell

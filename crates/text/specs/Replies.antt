@@ -14,7 +14,7 @@ use Rattle.books.specs.declared.LogLine.{LogLine}
 use Rattle.books.specs.declared.AuditLine.{AuditLine}
 use Rattle.state.specs.declared.Counters.{Counters}
 use Rattle.state.specs.declared.Alarms.{Alarms}
-use Rattle.text.specs.declared.replies.Moment.{Moment}
+use Rattle.state.specs.declared.Moment.{Moment}
 use Rattle.text.specs.declared.replies.Reply.{Reply}
 use Rattle.text.specs.declared.replies.Reply.the-variants as reply
 use Rattle.settings.specs.declared.Value.{Value}

@@ -9,19 +9,6 @@ ghost use Rattle.text.specs.Replies.{Put, glyph, digits, places, decimal
 // More than the longest reply: a report's seven numbers of 20 digits, nine flags, and a space before each.
 const ROOM: usize = 256;
 
-// What one moment shows: time, counters, totals, alarms, latches and locks.
-pub struct Moment {
-    pub time: u64,
-    pub counters: state::Counters,
-    pub vmt: units::Litres,
-    pub vbt: units::BaseUnits,
-    pub alarms: state::Alarms,
-    pub latches: state::Alarms,
-    pub cal: bool,
-    pub sup: bool,
-    pub cust: bool,
-}
-
 fn put_byte(out: &mut [u8], at: usize, b: u8) -> usize
     requires { ⌜ at < length (now out) ⌝ }
     ensures { λ r. ⌜ Put 1 (now (out .entry)) (now (out .exit)) at r (b ∷ []) ⌝ }
@@ -220,7 +207,7 @@ fn put_lamps(out: &mut [u8], at: usize, alarms: state::Alarms, latches: state::A
     put_three(out, next, latches.p, latches.t, latches.k)
 }
 
-fn put_moment(out: &mut [u8], at: usize, m: Moment) -> usize
+fn put_moment(out: &mut [u8], at: usize, m: state::Moment) -> usize
     requires { ⌜ at + 165 ≤ length (now out) ⌝ }
     ensures { λ r. ⌜ Put 165 (now (out .entry)) (now (out .exit)) at r (joined (momentWords m)) ⌝ }
 {
@@ -244,7 +231,7 @@ pub enum Reply {
     Unknown,
     Number(u64),
     Value(settings::Value),
-    Report(Moment),
+    Report(state::Moment),
     Archive(books::ArchiveLine),
     Log(books::LogLine),
     Audit(books::AuditLine),
@@ -276,7 +263,7 @@ fn value_line(out: &mut [u8], at: usize, v: settings::Value) -> usize
     put_byte(out, last, 10)
 }
 
-fn report_line(out: &mut [u8], at: usize, m: Moment) -> usize
+fn report_line(out: &mut [u8], at: usize, m: state::Moment) -> usize
     requires { ⌜ at + 256 ≤ length (now out) ⌝ }
     ensures { λ r. ⌜ Put 256 (now (out .entry)) (now (out .exit)) at r (doneText (momentWords m)) ⌝ }
 {

@@ -75,7 +75,7 @@ pub fn clear(label: &[u8], s: State) {
     answered(s, panel::clear(s), true);
 }
 
-fn blank_report(m: panel::Moment) -> bool {
+fn blank_report(m: state::Moment) -> bool {
     let none = panel::start(0, 0, 0);
     let state = none.state;
     let core = state.core;

@@ -11,7 +11,6 @@ use Rattle.state.specs.declared.State.{State}
 use Rattle.state.specs.declared.Answer.{Answer}
 use Rattle.cycle.specs.declared.Brought.{Brought}
 use Rattle.cycle.specs.Cycle.{Outcome, cycleOf}
-use Rattle.panel.specs.declared.Moment.{Moment}
 use Rattle.panel.specs.declared.ReportAnswer.{ReportAnswer}
 use Rattle.panel.specs.declared.ArchiveAnswer.{ArchiveAnswer}
 use Rattle.panel.specs.declared.LogAnswer.{LogAnswer}
@@ -21,7 +20,6 @@ use Rattle.doors.specs.declared.AuditAnswer.{AuditAnswer}
 use Rattle.doors.specs.Doors.{Audited, beginOf, abandonOf, readOf, writeOf, commitOf, auditLineOf}
 use Rattle.text.specs.declared.commands.Command.{Command}
 use Rattle.text.specs.declared.commands.Command.the-variants as command
-use Rattle.text.specs.declared.replies.Moment.{Moment as Shown}
 use Rattle.text.specs.declared.replies.Reply.{Reply}
 use Rattle.text.specs.declared.replies.Reply.the-variants as reply
 use Rattle.turns.specs.declared.Turn.{Turn}
@@ -39,22 +37,8 @@ numbered a = record { reply = reply.Number (a .number); state = a .state }
 unfoldable pub valueReply : ReadAnswer → Reply
 valueReply a = cond (eqb (a .number) 0) (reply.Value (a .value)) (reply.Number (a .number))
 
--- all of it
-unfoldable pub momentOf : Moment → Shown
-momentOf m = record {
-  time = m .time;
-  counters = m .counters;
-  vmt = m .vmt;
-  vbt = m .vbt;
-  alarms = m .alarms;
-  latches = m .latches;
-  cal = m .cal;
-  sup = m .sup;
-  cust = m .cust;
-}
-
 unfoldable pub reportReply : ReportAnswer → Reply
-reportReply a = cond (eqb (a .number) 0) (reply.Report (momentOf (a .report))) (reply.Number (a .number))
+reportReply a = cond (eqb (a .number) 0) (reply.Report (a .report)) (reply.Number (a .number))
 
 unfoldable pub archiveReply : ArchiveAnswer → Reply
 archiveReply a = cond (eqb (a .number) 0) (reply.Archive (a .line)) (reply.Number (a .number))
