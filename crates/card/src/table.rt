@@ -15,8 +15,11 @@ fn called(name: &[u8], unit: &[u8]) {
     text(unit);
 }
 
-// By the place in the table. A row that the device has and this page does not know stands without a name.
-fn name_and_unit(k: usize) {
+fn unknown() {
+    called(b"?", b"?");
+}
+
+fn pulse_base_and_modes(k: usize) {
     match k {
         0 => called(b"cp code", b"code c: a pulse is 10^(c+1) litres"),
         1 => called(b"pb", b"Pa"),
@@ -24,22 +27,58 @@ fn name_and_unit(k: usize) {
         3 => called(b"Md.p", b"0 p.F, 1 measured"),
         4 => called(b"Md.T", b"0 T.F, 1 measured"),
         5 => called(b"Md.K", b"0 K.F, 1 computed"),
+        _ => unknown(),
+    }
+}
+
+fn alarm_limits(k: usize) {
+    match k {
         6 => called(b"pMin", b"Pa"),
         7 => called(b"pMax", b"Pa"),
         8 => called(b"TMin", b"0.01 \xc2\xb0C"),
         9 => called(b"TMax", b"0.01 \xc2\xb0C"),
+        _ => unknown(),
+    }
+}
+
+fn temperature_equation(k: usize) {
+    match k {
         10 => called(b"Eq1.T", b"float"),
         11 => called(b"Eq2.T", b"float"),
         12 => called(b"Eq3.T", b"float"),
+        _ => unknown(),
+    }
+}
+
+fn fixed_values(k: usize) {
+    match k {
         13 => called(b"p.F", b"Pa"),
         14 => called(b"T.F", b"0.01 \xc2\xb0C"),
         15 => called(b"K.F", b"0.0001"),
+        _ => unknown(),
+    }
+}
+
+fn gas_and_customer(k: usize) {
+    match k {
         16 => called(b"Ho.b", b"0.001 kWh/m\xc2\xb3"),
         17 => called(b"CO2", b"0.01 %"),
         18 => called(b"H2", b"0.01 %"),
         19 => called(b"Rhob", b"0.0001 kg/m\xc2\xb3"),
         20 => called(b"customer's number", b"-"),
-        _ => called(b"?", b"?"),
+        _ => unknown(),
+    }
+}
+
+// By the place in the table, in groups: the proof of one long match takes many times as long. A row that the device has and this page does
+// not know stands without a name.
+fn name_and_unit(k: usize) {
+    match k {
+        0..=5 => pulse_base_and_modes(k),
+        6..=9 => alarm_limits(k),
+        10..=12 => temperature_equation(k),
+        13..=15 => fixed_values(k),
+        _ => gas_and_customer(k),
     }
 }
 
