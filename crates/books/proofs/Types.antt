@@ -3,13 +3,7 @@
 use mir.Syntax.{w8, w16, w32, w64}
 use denote.Builtin.{u8, u16, u32, u64, usize, i64, f64, bool, unit}
 use lib.Ieee.{binary64}
-use Rattle.books.proofs.Walk.{Known, known-uint, known-sint, known-float, known-bool, known-unit, known-struct, known-enum}
-use Rattle.units.proofs.Litres as Litres′
-use Rattle.units.proofs.Litres.Laws as Litres″
-use Rattle.units.proofs.BaseUnits as BaseUnits′
-use Rattle.units.proofs.BaseUnits.Laws as BaseUnits″
-use Rattle.settings.proofs.Value as Value′
-use Rattle.settings.proofs.Value.Laws as Value″
+use Rattle.books.proofs.Walk.{Known, known-uint, known-sint, known-float, known-bool, known-unit, known-struct}
 use Rattle.books.proofs.ArchiveLine as ArchiveLine′
 use Rattle.books.proofs.ArchiveLine.Laws as ArchiveLine″
 use Rattle.books.proofs.LogLine as LogLine′
@@ -49,15 +43,6 @@ a-bool = known-bool
 
 abbrev pub a-unit : Known unit
 a-unit = known-unit
-
-abbrev pub a-Litres : Known Litres′.the-row
-a-Litres = known-struct Litres′.the-type Litres″.the-laws Litres″.the-plain
-
-abbrev pub a-BaseUnits : Known BaseUnits′.the-row
-a-BaseUnits = known-struct BaseUnits′.the-type BaseUnits″.the-laws BaseUnits″.the-plain
-
-abbrev pub a-Value : Known Value′.the-row
-a-Value = known-enum Value′.the-type Value″.the-laws Value″.the-plain tt
 
 abbrev pub a-ArchiveLine : Known ArchiveLine′.the-row
 a-ArchiveLine = known-struct ArchiveLine′.the-type ArchiveLine″.the-laws ArchiveLine″.the-plain

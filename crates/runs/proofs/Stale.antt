@@ -8,7 +8,7 @@ use mathlib.Core.List.{List, [], _∷_, reverseAux}
 use Prim.Native.Nat.{ℕ, zero, suc, _+_, _-_, _<_}
 use native.Mathlib.Omega.{arith}
 use lib.Dec.{ltb, leb, eqb}
-use lib.ListN.{length, getD, set, replicate, length-set}
+use lib.ListN.{length, getD, replicate, length-set}
 use lib.Seq.{getD-set-same, getD-set-other}
 use borrow.Author.Tests.{eqb-true, eqb-false, eq-eqb, ltb-false, le-ltb}
 use Rattle.ground.specs.Below.{anyBelow}

@@ -1,15 +1,14 @@
 -- The state of a corrector: as it starts, and when it is whole. Document 01, "Number on the fault card", its last paragraph.
 -- Assumes nothing.
 use Prim.Native.Nat.{ℕ}
-use mathlib.Core.Bool.{Bool, true, false, not, cond, _&&_, _||_}
-use mathlib.Core.List.{List, [], _∷_}
+use mathlib.Core.Bool.{Bool, false, not, _&&_, _||_}
+use mathlib.Core.List.{List}
 use lib.ListN.{getD, replicate}
 use lib.IntN.{pos}
-use lib.Dec.{ltb, leb, eqb}
+use lib.Dec.{ltb, eqb}
 use Rattle.ground.specs.Below.{allBelow}
 use Rattle.units.specs.Units.{litresRollover, baseRollover}
 use Rattle.settings.specs.Settings.{settingCount, fitsB, settingsFitB, orderedB, factorySettings}
-use Rattle.settings.specs.declared.Setting.{Setting}
 use Rattle.settings.specs.declared.Value.the-variants.{Whole}
 use Rattle.calendar.specs.Calendar.{endOfTime, monthOf}
 use Rattle.ring.specs.declared.Ring.{Ring}

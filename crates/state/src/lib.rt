@@ -318,13 +318,7 @@ pub fn whole(s: State) -> bool
     ground::both(d, c)
 }
 
-// ---- parts, by value
-
-pub fn core_of(s: State) -> Core
-    ensures { λ r. ⌜ r ≡ s .core ⌝ }
-{
-    s.core
-}
+// ---- another core
 
 pub fn with_core(s: State, core: Core) -> State
     ensures { λ r. ⌜ r ≡ withCore s core ⌝ }

@@ -1,5 +1,5 @@
--- Cases of document 01, computed from the definitions: H6, the temperature of H4, the slip "adding 0.5 in floats", the ends of the range, and
--- a case in which results are rounded.
+-- Cases computed from the definitions: the ends of the range, the slip "adding 0.5 in floats", and a case in which results are rounded. H4 and
+-- H6 of document 01 are rows of the table in the crate cases.
 -- A float is `fin s m e`, which is ± m · 2^e, or `ofBits binary64` of its bits.
 -- Assumes nothing.
 use mathlib.Core.Path.{_≡_, refl}
@@ -16,19 +16,7 @@ hundred-is : hundred ≡ fin false 25 (pos 2)
 unfolding ofBits
 hundred-is = refl
 
--- H6
-pub minus-half : nearestOf (fin true 1 (negsuc 0)) ≡ Hundredths (negsuc 0)
-unfolding nearestOf
-minus-half = refl
-
-pub half-above-2000 : nearestOf (fin false 4001 (negsuc 0)) ≡ Hundredths (pos 2001)
-unfolding nearestOf
-half-above-2000 = refl
-
-pub minus-quarter : nearestOf (fin true 1 (negsuc 1)) ≡ Hundredths (pos 0)
-unfolding nearestOf
-minus-quarter = refl
-
+-- the upper end
 pub highest : nearestOf (fin false 625 (pos 5)) ≡ Hundredths (pos 20000)
 unfolding nearestOf
 highest = refl
@@ -63,14 +51,6 @@ no-number = refl
 infinite : nearestOf (inf true) ≡ Failed
 unfolding nearestOf
 infinite = refl
-
--- H4: Eq1.T -40, Eq2.T 0.0078125 = 2^-7, Eq3.T 0, and raw 7,680
-abbrev factory : Coefficients
-factory = record { eq1 = fin true 5 (pos 3); eq2 = fin false 1 (negsuc 6); eq3 = fin false 0 (pos 0) }
-
-pub twenty-degrees : nearestOf (equationOf factory 7680) ≡ Hundredths (pos 2000)
-unfolding nearestOf equationOf add mul ofInt ofBits
-twenty-degrees = refl
 
 -- coefficients at which four of the six results are rounded: -40.1, 0.0078 and 10^-9, and raw 7,731
 abbrev uneven : Coefficients

@@ -6,9 +6,8 @@ use mathlib.Core.List.{List, [], _∷_}
 use lib.Dec.{ltb, leb, eqb}
 use lib.ListN.{length, getD, drop}
 use lib.IntN.{ℤ, pos, negℤ}
-use lib.Ieee.{Float, ofBits, binary64}
+use lib.Ieee.{ofBits, binary64}
 use Rattle.ground.specs.Below.{allBelow}
-use Rattle.settings.specs.declared.Value.{Value}
 use Rattle.settings.specs.declared.Value.the-variants.{Whole, Coefficient}
 use Rattle.readings.specs.declared.RawTemperature.the-variants as raw
 use Rattle.readings.specs.declared.Pressure.the-variants as pressure

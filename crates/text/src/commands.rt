@@ -10,7 +10,7 @@ use crate::words::after_word;
 use crate::words::same;
 use crate::words::word_between;
 ghost use mathlib.Core.Path.{_≡_};
-ghost use Rattle.text.specs.Words.{wordBetween, noWord};
+ghost use Rattle.text.specs.Words.{wordBetween};
 ghost use Rattle.text.specs.Numbers.{numberIn, codeBy, readingOf};
 ghost use Rattle.text.specs.Commands.{isQuiet, singleVerb, verbOf, singleBy, singleOr, singleIn, aloneOr, startBy, startIn, cycleBy, cycleIn, readBy, readIn, writeBy, writeIn, openBy, openIn, commandBy, commandOf};
 

@@ -1,7 +1,6 @@
 -- What each command comes to: the reply, the state after it, and the three stores.
 -- Assumes nothing.
-use Prim.Native.Nat.{ℕ}
-use mathlib.Core.Bool.{Bool, cond}
+use mathlib.Core.Bool.{cond}
 use mathlib.Core.List.{List}
 use lib.Dec.{eqb}
 use Rattle.books.specs.declared.ArchiveLine.{ArchiveLine}
@@ -9,7 +8,6 @@ use Rattle.books.specs.declared.LogLine.{LogLine}
 use Rattle.books.specs.declared.AuditLine.{AuditLine}
 use Rattle.state.specs.declared.State.{State}
 use Rattle.state.specs.declared.Answer.{Answer}
-use Rattle.cycle.specs.declared.Brought.{Brought}
 use Rattle.cycle.specs.Cycle.{Outcome, cycleOf}
 use Rattle.panel.specs.declared.ReportAnswer.{ReportAnswer}
 use Rattle.panel.specs.declared.ArchiveAnswer.{ArchiveAnswer}
