@@ -2,8 +2,8 @@
 //! the reference.
 
 use std::io::{self, Read, Write};
-use std::path::PathBuf;
-use std::process::{Child, Command, ExitStatus, Stdio};
+use std::path::{Path, PathBuf};
+use std::process::{Child, ChildStdin, ChildStdout, Command, ExitStatus, Stdio};
 use std::sync::mpsc;
 use std::thread;
 use std::time::{Duration, Instant};
@@ -45,31 +45,45 @@ pub struct Difference {
     pub bench: String,
 }
 
+/// A program that was started, and the pipes to and from it.
+fn started(program: &Path, errors: Stdio) -> io::Result<(Child, ChildStdin, ChildStdout)> {
+    let mut child = Command::new(program)
+        .stdin(Stdio::piped())
+        .stdout(Stdio::piped())
+        .stderr(errors)
+        .spawn()?;
+    let stdin = child.stdin.take().expect("a piped standard input");
+    let stdout = child.stdout.take().expect("a piped standard output");
+    Ok((child, stdin, stdout))
+}
+
+/// Starts a program on an input. The input is written by a thread of its own:
+/// were it written first and the answers read afterwards, both sides would
+/// wait for ever as soon as the pipes are full.
+pub fn fed(program: &Path, input: Vec<u8>, errors: Stdio) -> io::Result<(Child, ChildStdout)> {
+    let (child, mut stdin, stdout) = started(program, errors)?;
+    thread::spawn(move || {
+        // A program that stops early closes the pipe. That shows in its
+        // answers, so the error itself is of no interest.
+        let _ = stdin.write_all(&input);
+    });
+    Ok((child, stdout))
+}
+
 impl Bench {
-    fn spawn(&self) -> io::Result<Child> {
-        Command::new(&self.program)
-            .stdin(Stdio::piped())
-            .stdout(Stdio::piped())
-            .stderr(if self.quiet { Stdio::null() } else { Stdio::inherit() })
-            .spawn()
+    fn errors(&self) -> Stdio {
+        if self.quiet {
+            Stdio::null()
+        } else {
+            Stdio::inherit()
+        }
     }
 
-    /// Runs the program on a script. The script is written by a thread of its
-    /// own: were it written first and the answers read afterwards, both sides
-    /// would wait for ever as soon as the pipes are full.
+    /// Runs the program on a script.
     pub fn run(&self, script: &Script, expected_length: usize) -> io::Result<Run> {
         let limit = self.limit + Duration::from_millis(script.lines.len() as u64);
         let deadline = Instant::now() + limit;
-        let mut child = self.spawn()?;
-        let mut stdin = child.stdin.take().expect("a piped standard input");
-        let stdout = child.stdout.take().expect("a piped standard output");
-
-        let bytes = script.bytes();
-        thread::spawn(move || {
-            // A program that stops early closes the pipe. That shows in its
-            // answers, so the error itself is of no interest.
-            let _ = stdin.write_all(&bytes);
-        });
+        let (mut child, stdout) = fed(&self.program, script.bytes(), self.errors())?;
 
         // Room for wrong answers, but not for an endless stream of them.
         let most = 2 * expected_length as u64 + 1_000_000;
@@ -116,9 +130,7 @@ impl Bench {
     /// the end has not come. A program that holds its answers back until the
     /// end answers none.
     pub fn answered_with_input_open(&self, lines: usize) -> io::Result<usize> {
-        let mut child = self.spawn()?;
-        let mut stdin = child.stdin.take().expect("a piped standard input");
-        let mut stdout = child.stdout.take().expect("a piped standard output");
+        let (mut child, mut stdin, mut stdout) = started(&self.program, self.errors())?;
 
         // The thread keeps the input open until it is let go. It is not waited
         // for: a program that does not read would hold it for ever.

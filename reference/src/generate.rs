@@ -353,8 +353,7 @@ impl<'a> Writer<'a> {
             self.put_in_force(1, &modes);
         }
         while self.lines.len() < until {
-            let cycle = self.edge_cycle();
-            self.say(Command::Cycle(cycle));
+            self.odd_cycle();
             if self.rng.percent(25) {
                 self.say(Command::Report);
             }
@@ -457,8 +456,7 @@ impl<'a> Writer<'a> {
                 self.open_lock(1);
             }
             if self.rng.percent(10) {
-                let cycle = self.edge_cycle();
-                self.say(Command::Cycle(cycle));
+                self.odd_cycle();
             }
         }
     }
@@ -546,10 +544,7 @@ impl<'a> Writer<'a> {
                     let index = self.index(self.model.audit_held(), AUDIT_LINES);
                     self.say(Command::Audit { index });
                 }
-                _ => {
-                    let cycle = self.edge_cycle();
-                    self.say(Command::Cycle(cycle));
-                }
+                _ => self.odd_cycle(),
             }
         }
     }
@@ -605,17 +600,12 @@ impl<'a> Writer<'a> {
             ],
         );
         for _ in 0..20 + self.rng.below(90) {
-            let time = self.model.time + self.rng.below(100);
-            let p = measured.then_some(10_000_000);
-            self.say(Command::Cycle(Cycle { time, n: N_LIMIT, raw: None, p, k: None }));
+            self.pressure_cycle(N_LIMIT, |_| measured.then_some(10_000_000));
             if self.rng.percent(30) {
                 self.say(Command::Report);
             }
         }
-        let factory: Vec<(usize, Value)> = [1, 2, 3, 5, 8, 14, 15, 16]
-            .map(|setting| (setting, RULES[setting - 1].factory))
-            .to_vec();
-        self.put_in_force(2, &factory);
+        self.back_to_factory(2, &[1, 2, 3, 5, 8, 14, 15, 16]);
     }
 
     /// Factors that are exactly a half before rounding: p is then counted in
@@ -637,14 +627,10 @@ impl<'a> Writer<'a> {
             ],
         );
         for _ in 0..5 + self.rng.below(20) {
-            let time = self.model.time + self.rng.below(100);
-            let p = Some(self.rng.between(10_000, 200_000) as u64);
-            self.say(Command::Cycle(Cycle { time, n: 1, raw: None, p, k: None }));
+            self.pressure_cycle(1, |rng| Some(rng.between(10_000, 200_000) as u64));
             self.say(Command::Report);
         }
-        let factory: Vec<(usize, Value)> =
-            [2, 5, 7, 8, 15, 16].map(|setting| (setting, RULES[setting - 1].factory)).to_vec();
-        self.put_in_force(2, &factory);
+        self.back_to_factory(2, &[2, 5, 7, 8, 15, 16]);
     }
 
     /// Any command with any arguments.
@@ -718,6 +704,11 @@ impl<'a> Writer<'a> {
         self.say(Command::Cycle(cycle));
     }
 
+    fn odd_cycle(&mut self) {
+        let cycle = self.edge_cycle();
+        self.say(Command::Cycle(cycle));
+    }
+
     /// A look into one of the books.
     fn look(&mut self) {
         let command = match self.rng.below(3) {
@@ -733,18 +724,29 @@ impl<'a> Writer<'a> {
         self.say(Command::Begin { door });
         for _ in 0..self.rng.below(4) {
             let setting = 1 + self.rng.below(SETTINGS as u64);
-            if self.rng.percent(50) {
-                self.say(Command::Read { door, setting });
-            } else {
-                let value = self.good_value(setting as usize);
-                self.say(Command::Write { door, setting, value });
-            }
+            self.read_or_write(door, setting);
         }
         match self.rng.below(10) {
             0 => {}
             1 | 2 => self.say(Command::Abandon { door }),
             _ => self.say(Command::Commit { door }),
         }
+    }
+
+    fn read_or_write(&mut self, door: u64, setting: u64) {
+        if self.rng.percent(50) {
+            self.say(Command::Read { door, setting });
+        } else {
+            let value = self.good_value(setting as usize);
+            self.say(Command::Write { door, setting, value });
+        }
+    }
+
+    /// A cycle soon after the last, of which the pressure alone is measured.
+    fn pressure_cycle(&mut self, n: u64, p: impl FnOnce(&mut Rng) -> Option<u64>) {
+        let time = self.model.time + self.rng.below(100);
+        let p = p(self.rng);
+        self.say(Command::Cycle(Cycle { time, n, raw: None, p, k: None }));
     }
 
     /// A cycle some minutes after the last, seldom with an alarm.
@@ -763,12 +765,7 @@ impl<'a> Writer<'a> {
         }
         for _ in 0..self.rng.below(4) {
             let setting = self.rng.pick(&[2, 3, 14, 15, 16, 17, 18, 19, 20, 21]);
-            if self.rng.percent(50) {
-                self.say(Command::Read { door, setting });
-            } else {
-                let value = self.good_value(setting as usize);
-                self.say(Command::Write { door, setting, value });
-            }
+            self.read_or_write(door, setting);
         }
         match self.rng.below(10) {
             0 => {}
@@ -790,11 +787,15 @@ impl<'a> Writer<'a> {
         self.say(Command::Commit { door });
     }
 
+    fn back_to_factory(&mut self, door: u64, settings: &[usize]) {
+        let factory: Vec<(usize, Value)> =
+            settings.iter().map(|setting| (*setting, RULES[setting - 1].factory)).collect();
+        self.put_in_force(door, &factory);
+    }
+
     fn factory_coefficients(&mut self) {
         self.open_lock(1);
-        let factory: Vec<(usize, Value)> =
-            [9, 10, 11, 12, 13].map(|setting| (setting, RULES[setting - 1].factory)).to_vec();
-        self.put_in_force(1, &factory);
+        self.back_to_factory(1, &[9, 10, 11, 12, 13]);
     }
 
     fn open_lock(&mut self, lock: u64) {

@@ -14,3 +14,4 @@ pub mod generate;
 pub mod lines;
 pub mod script;
 pub mod shrink;
+pub mod usage;

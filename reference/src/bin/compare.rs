@@ -11,6 +11,7 @@ use corrector_reference::coverage::Coverage;
 use corrector_reference::generate::{fuzz_script, giant_script, long_script, random_script, Rng};
 use corrector_reference::script::{show, Script};
 use corrector_reference::shrink::shrink;
+use corrector_reference::usage::options_or_end;
 
 const USAGE: &str = "\
 usage: compare --bench PROGRAM [--steps N] [--seed S] [options]
@@ -110,16 +111,9 @@ impl From<std::io::Error> for Stop {
 }
 
 fn main() -> ExitCode {
-    let options = match read_options() {
-        Ok(Some(options)) => options,
-        Ok(None) => {
-            println!("{USAGE}");
-            return ExitCode::SUCCESS;
-        }
-        Err(message) => {
-            eprintln!("compare: {message}\n\n{USAGE}");
-            return ExitCode::from(2);
-        }
+    let options = match options_or_end("compare", USAGE, read_options()) {
+        Ok(options) => options,
+        Err(status) => return status,
     };
     let mut comparison = Comparison::new(options);
     match comparison.run() {

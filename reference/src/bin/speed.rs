@@ -3,16 +3,17 @@
 //! a second.
 
 use std::hint::black_box;
-use std::io::{self, Read, Write};
+use std::io::{self, Read};
 use std::path::{Path, PathBuf};
-use std::process::{Command as Process, ExitCode, Stdio};
-use std::thread;
+use std::process::{ExitCode, Stdio};
 use std::time::{Duration, Instant};
 
+use corrector_reference::bench::fed;
 use corrector_reference::command::{obey, Command};
 use corrector_reference::device::Device;
 use corrector_reference::generate::{accepted_cycles, mixed_commands};
 use corrector_reference::lines::write_command;
+use corrector_reference::usage::options_or_end;
 
 const USAGE: &str = "\
 usage: speed [--device PROGRAM] [--bench PROGRAM] [options]
@@ -157,22 +158,14 @@ impl Side for BlockProgram {
     }
 }
 
-/// Runs a program on an input that is written by a thread of its own, so that
-/// full pipes hold nobody up. Gives its output and the time it took.
+/// Runs a program on an input. Gives its output and the time it took.
 fn run(program: &Path, input: Vec<u8>) -> io::Result<(Vec<u8>, Duration)> {
-    let mut process = Process::new(program);
     let begun = Instant::now();
-    let mut child = process.stdin(Stdio::piped()).stdout(Stdio::piped()).spawn()?;
-    let mut stdin = child.stdin.take().expect("a piped standard input");
-    let mut stdout = child.stdout.take().expect("a piped standard output");
-    let writer = thread::spawn(move || {
-        let _ = stdin.write_all(&input);
-    });
+    let (mut child, mut stdout) = fed(program, input, Stdio::inherit())?;
     let mut output = Vec::new();
     stdout.read_to_end(&mut output)?;
     let status = child.wait()?;
     let elapsed = begun.elapsed();
-    let _ = writer.join();
     if status.success() {
         Ok((output, elapsed))
     } else {
@@ -213,16 +206,9 @@ fn read_options() -> Result<Option<Options>, String> {
 }
 
 fn main() -> ExitCode {
-    let options = match read_options() {
-        Ok(Some(options)) => options,
-        Ok(None) => {
-            println!("{USAGE}");
-            return ExitCode::SUCCESS;
-        }
-        Err(message) => {
-            eprintln!("speed: {message}\n\n{USAGE}");
-            return ExitCode::from(2);
-        }
+    let options = match options_or_end("speed", USAGE, read_options()) {
+        Ok(options) => options,
+        Err(status) => return status,
     };
     match measure(&options) {
         Ok(()) => ExitCode::SUCCESS,
