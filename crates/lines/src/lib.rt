@@ -1,6 +1,8 @@
 // Lines by the block: the commands of lines for a desk, and the lines of its answers.
+ghost use mathlib.Core.Path.{_≡_};
 ghost use Prim.Native.Nat.{_≤_};
 ghost use lib.ListN.{length};
+ghost use Rattle.lines.specs.Lines.{ordersIn};
 use desk::Order;
 use desk::Said;
 
@@ -18,7 +20,7 @@ pub struct Orders {
 
 // The commands of the whole lines of the input, one after another, as many as make a block.
 pub fn orders_in(input: &[u8]) -> Orders
-    ensures { λ r. ⌜ r .at ≤ length (now (input .entry)) ⌝ }
+    ensures { λ r. ⌜ r ≡ ordersIn (now (input .entry)) ⌝ }
 {
     let none = desk::no_order();
     let mut orders = [none; desk::BLOCK];

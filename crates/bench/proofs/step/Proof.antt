@@ -2,8 +2,11 @@
 -- Assumes nothing.
 use mathlib.Core.Path.{_≡_, sym}
 use native.Mathlib.Omega.{arith}
+use Prim.Native.Nat.{_-_}
+use lib.ListN.{take, drop}
 use lib.Seq.{length-take-le}
 use denote.Ref.{now}
+use Rattle.lines.proofs.Cuts.{orders-within}
 use Rattle.bench.proofs.Parts.{part-length}
 use borrow.Author.Needs.{needs}
 use Rattle.bench.proofs.step.Statement.{statement}
@@ -49,7 +52,8 @@ add-t26 c =
     let p = c .before .before .before .before .before .before .before .before .before .before .before .before .before .before .before .before .before .before .before .pre in
     let l = part-length (now (a .input)) (a .from) (a .have) (p .0) (p .1) in
     let g = c .before .before .before .before .before .before .before .before .before .before .before .before .before .before .before .before .before .before .before .fits .have in
-    let e = c .before .before .before .before .before .before .before .before .before .before .before .before .before .before .orders-in .ensures in
+    let o = c .before .before .before .before .before .before .before .before .before .before .before .before .before .before .orders-in in
+    let e = orders-within (take (a .have - a .from) (drop (a .from) (now (a .input)))) (o .result) (o .ensures) in
     omega arith
 
 same-length : tie.Need-same-length
@@ -63,7 +67,8 @@ returns c =
     let a = c .before .before .before .before .before .before .before .before .before .before .before .before .before .before .before .before .before .before .before .args in
     let p = c .before .before .before .before .before .before .before .before .before .before .before .before .before .before .before .before .before .before .before .pre in
     let l = part-length (now (a .input)) (a .from) (a .have) (p .0) (p .1) in
-    let e = c .before .before .before .before .before .before .before .before .before .before .before .before .before .before .orders-in .ensures in
+    let o = c .before .before .before .before .before .before .before .before .before .before .before .before .before .before .orders-in in
+    let e = orders-within (take (a .have - a .from) (drop (a .from) (now (a .input)))) (o .result) (o .ensures) in
     (omega arith, p .1)
 
 refill-requires : tie.Need-refill-requires

@@ -1,0 +1,199 @@
+-- The loop's way through an input: it cuts at the first line feed, and the rest again.
+-- Assumes nothing.
+use Prim.Native.Nat.{ℕ, zero, suc, _+_, _-_, _≤_, _<_, zero-le, suc-le-suc}
+use native.Mathlib.Nat.{le-refl, le-trans, not-suc-le-zero, le-of-suc-le-suc, add-zero, add-assoc}
+use native.Mathlib.Numerals.{add-one}
+use native.Mathlib.Omega.{arith}
+use mathlib.Core.Path.{_≡_, refl, sym, ap, _∙_, subst}
+use mathlib.Core.Bool.{Bool, true, false, cond}
+use mathlib.Core.List.{List, [], _∷_, _++_, map, map-append, append-assoc}
+use lib.Dec.{eqb, ltb}
+use borrow.Author.Tests.{ltb-true, ltb-false}
+use lib.ListN.{length, take, drop, set, replicate, length-append, length-map, length-drop, length-take, drop-of-length-le}
+use lib.Seq.{take-add, drop-drop, take-all, set-at, length-take-le}
+use Rattle.text.specs.Words.{firstOf}
+use Rattle.text.specs.declared.commands.Command.{Command}
+use Rattle.text.specs.Commands.{commandOf}
+use Rattle.desk.specs.declared.Order.{Order}
+use Rattle.desk.specs.Desk.{block, noOrder}
+use Rattle.lines.specs.declared.Orders.{Orders}
+use Rattle.lines.specs.Lines.{lineFeed, inFront, wholeLines, bytesOf, orderOf, inBlock, ordersOf, ordersIn}
+
+-- ---- the first line feed
+
+-- the bytes before it are the first line, and the lines after it are the others
+cut-first : (l : List ℕ) → firstOf lineFeed l < length l
+    → wholeLines l ≡ take (firstOf lineFeed l) l ∷ wholeLines (drop (suc (firstOf lineFeed l)) l)
+unfolding firstOf wholeLines inFront
+cut-first [] h = absurd (not-suc-le-zero h)
+cut-first (b ∷ l) h = by-test (eqb b lineFeed) (firstOf lineFeed l) h (cut-first l)
+  where
+    by-test : (t : Bool) (f : ℕ) → cond t 0 (suc f) < suc (length l)
+        → (f < length l → wholeLines l ≡ take f l ∷ wholeLines (drop (suc f) l))
+        → cond t ([] ∷ wholeLines l) (inFront b (wholeLines l)) ≡ take (cond t 0 (suc f)) (b ∷ l) ∷ wholeLines (drop (suc (cond t 0 (suc f))) (b ∷ l))
+    by-test true f q known = refl
+    by-test false f q known = ap (inFront b) (known (le-of-suc-le-suc q))
+
+-- where there is none, there is no whole line
+pub no-line : (l : List ℕ) → length l ≤ firstOf lineFeed l → wholeLines l ≡ []
+unfolding firstOf wholeLines inFront
+no-line [] h = refl
+no-line (b ∷ l) h = by-test (eqb b lineFeed) (firstOf lineFeed l) h (no-line l)
+  where
+    by-test : (t : Bool) (f : ℕ) → suc (length l) ≤ cond t 0 (suc f) → (length l ≤ f → wholeLines l ≡ []) → cond t ([] ∷ wholeLines l) (inFront b (wholeLines l)) ≡ []
+    by-test true f q known = absurd (not-suc-le-zero q)
+    by-test false f q known = ap (inFront b) (known (le-of-suc-le-suc q))
+
+-- ---- the bytes of lines
+
+bytes-both : (ls ms : List (List ℕ)) → bytesOf (ls ++ ms) ≡ bytesOf ls + bytesOf ms
+unfolding bytesOf
+bytes-both [] ms = omega arith
+bytes-both (l ∷ ls) ms = omega (arith, bytes-both ls ms)
+
+bytes-in-front : (b : ℕ) (ls : List (List ℕ)) → bytesOf (inFront b ls) ≤ suc (bytesOf ls)
+unfolding bytesOf inFront
+bytes-in-front b [] = zero-le
+bytes-in-front b (l ∷ ls) = omega arith
+
+bytes-within : (l : List ℕ) → bytesOf (wholeLines l) ≤ length l
+unfolding bytesOf wholeLines
+bytes-within [] = zero-le
+bytes-within (b ∷ l) = by-test (eqb b lineFeed) (bytes-within l)
+  where
+    by-test : (t : Bool) → bytesOf (wholeLines l) ≤ length l → bytesOf (cond t ([] ∷ wholeLines l) (inFront b (wholeLines l))) ≤ suc (length l)
+    by-test true h = omega arith
+    by-test false h = omega (arith, bytes-in-front b (wholeLines l))
+
+bytes-taken : (k : ℕ) (ls : List (List ℕ)) → bytesOf (take k ls) ≤ bytesOf ls
+unfolding bytesOf
+bytes-taken zero ls = zero-le
+bytes-taken (suc k) [] = zero-le
+bytes-taken (suc k) (l ∷ ls) = omega (arith, bytes-taken k ls)
+
+-- what was taken lies within the input
+pub orders-within : (input : List ℕ) (r : Orders) → r ≡ ordersIn input → r .at ≤ length input
+unfolding ordersIn ordersOf
+orders-within input r e = rw e (le-trans (bytes-taken block (wholeLines input)) (bytes-within input))
+
+-- ---- what is left
+
+-- behind the bytes of the first lines stand the others
+others : (k : ℕ) (l : List ℕ) → wholeLines (drop (bytesOf (take k (wholeLines l))) l) ≡ drop k (wholeLines l)
+unfolding bytesOf
+others zero l = refl
+others (suc k) l = by-test (ltb (firstOf lineFeed l) (length l)) refl (others k (drop (suc (firstOf lineFeed l)) l))
+  where
+    by-test : (t : Bool) → ltb (firstOf lineFeed l) (length l) ≡ t
+        → wholeLines (drop (bytesOf (take k (wholeLines (drop (suc (firstOf lineFeed l)) l)))) (drop (suc (firstOf lineFeed l)) l)) ≡ drop k (wholeLines (drop (suc (firstOf lineFeed l)) l))
+        → wholeLines (drop (bytesOf (take (suc k) (wholeLines l))) l) ≡ drop (suc k) (wholeLines l)
+    by-test true e known =
+        let f = firstOf lineFeed l in
+        let h : f < length l = ltb-true f (length l) e in
+        let rest = drop (suc f) l in
+        let size : length (take f l) ≡ f = length-take-le f l (omega arith) in
+        let b = bytesOf (take k (wholeLines rest)) in
+        let place : length (take f l) + 1 + b ≡ suc f + b = omega arith in
+        let on : drop (length (take f l) + 1 + b) l ≡ drop b rest = ap (λ (m : ℕ). drop m l) place ∙ sym (drop-drop b (suc f) l) in
+        rw (cut-first l h) (ap wholeLines on ∙ known)
+    by-test false e known = rw (no-line l (ltb-false (firstOf lineFeed l) (length l) e)) (no-line l (ltb-false (firstOf lineFeed l) (length l) e))
+
+pub others-left : (input : List ℕ) → wholeLines (drop (ordersIn input .at) input) ≡ drop block (wholeLines input)
+unfolding ordersIn ordersOf
+others-left input = others block input
+
+-- none, unless the block is full
+pub none-left : (input : List ℕ) → ordersIn input .count < block → wholeLines (drop (ordersIn input .at) input) ≡ []
+unfolding ordersIn ordersOf
+none-left input h =
+    let w = wholeLines input in
+    let few : length w ≤ block = omega (arith, length-take block w) in
+    others block input ∙ drop-of-length-le w few
+
+-- ---- the loop after some turns
+
+-- the first lines were taken, and n bytes stand before the next line feed
+pub record Taken (input : List ℕ) (orders : List Order) (count at n : ℕ) : Type 0 where
+  pub few : count ≤ block
+  pub found : length (take count (wholeLines input)) ≡ count
+  pub filled : orders ≡ inBlock (take count (wholeLines input))
+  pub bytes : at ≡ bytesOf (take count (wholeLines input))
+  pub within : at ≤ length input
+  pub next : n ≡ firstOf lineFeed (drop at input)
+
+pub none-taken : (input : List ℕ) (blank : Order) (n : ℕ) → blank ≡ noOrder → n ≡ firstOf lineFeed input → Taken input (replicate block blank) 0 0 n
+unfolding inBlock bytesOf
+none-taken input blank n e f = record { few = zero-le; found = refl; filled = ap (replicate block) e; bytes = refl; within = zero-le; next = f }
+
+left-of : {input : List ℕ} {orders : List Order} {count at n : ℕ} → Taken input orders count at n → wholeLines (drop at input) ≡ drop count (wholeLines input)
+left-of {input} {orders} {count} t = ap (λ (a : ℕ). wholeLines (drop a input)) (t .bytes) ∙ others count input
+
+-- one command more takes the place of a blank one
+one-more : (ls : List (List ℕ)) (line : List ℕ) (k : ℕ) → length ls ≡ k → k < block → set (inBlock ls) k (orderOf line) ≡ inBlock (ls ++ (line ∷ []))
+unfolding inBlock
+one-more ls line k e h =
+    let m = block - suc k in
+    let blank : block - length ls ≡ suc m = omega arith in
+    let fewer : block - length (ls ++ (line ∷ [])) ≡ m = omega (arith, length-append ls (line ∷ [])) in
+    ap (λ (j : ℕ). set (map orderOf ls ++ replicate j noOrder) k (orderOf line)) blank
+    ∙ set-at (map orderOf ls) noOrder (replicate m noOrder) (orderOf line) k (length-map ls orderOf ∙ e)
+    ∙ sym (append-assoc (map orderOf ls) (orderOf line ∷ []) (replicate m noOrder))
+    ∙ ap (λ (os : List Order). os ++ replicate m noOrder) (sym (map-append orderOf ls (line ∷ [])))
+    ∙ ap (λ (j : ℕ). map orderOf (ls ++ (line ∷ [])) ++ replicate j noOrder) (sym fewer)
+
+pub line-more : (input : List ℕ) (orders : List Order) (count at n : ℕ) → Taken input orders count at n → n < length input - at → count < block
+    → (c : Command) → c ≡ commandOf (take n (drop at input)) → (m : ℕ) → m ≡ firstOf lineFeed (drop (at + n + 1) input)
+    → Taken input (set orders count (record { command = c })) (count + 1) (at + n + 1) m
+unfolding bytesOf
+line-more input orders count at n t h q c f m e =
+    let w = wholeLines input in
+    let rest = drop at input in
+    let line = take n rest in
+    let d : length rest ≡ length input - at = length-drop at input in
+    let size : length line ≡ n = length-take-le n rest (omega arith) in
+    let cut : wholeLines rest ≡ line ∷ wholeLines (drop (suc n) rest) =
+    subst (λ (f : ℕ). wholeLines rest ≡ take f rest ∷ wholeLines (drop (suc f) rest)) (sym (t .next)) (cut-first rest (subst (λ (f : ℕ). f < length rest) (t .next) (omega arith))) in
+    let others : drop count w ≡ line ∷ wholeLines (drop (suc n) rest) = sym (left-of t) ∙ cut in
+    let taken : take (count + 1) w ≡ take count w ++ (line ∷ []) = take-add count 1 w ∙ ap (λ (x : List (List ℕ)). take count w ++ take 1 x) others in
+    record {
+      few = omega arith;
+      found = ap length taken ∙ length-append (take count w) (line ∷ []) ∙ ap (λ (k : ℕ). k + 1) (t .found);
+      filled =
+          ap (λ (x : Command). set orders count (record { command = x })) f
+          ∙ ap (λ (os : List Order). set os count (orderOf line)) (t .filled)
+          ∙ one-more (take count w) line count (t .found) q
+          ∙ ap inBlock (sym taken);
+      bytes = omega (arith, ap bytesOf taken, bytes-both (take count w) (line ∷ []), t .bytes);
+      within = omega arith;
+      next = e;
+    }
+
+-- the orders of the lines taken are those of the input, where these lines are the block's
+taken-whole : (input : List ℕ) (orders : List Order) (count at n : ℕ) → Taken input orders count at n → take count (wholeLines input) ≡ take block (wholeLines input)
+    → record { count = count; orders = orders; at = at } ≡ ordersIn input
+unfolding ordersIn ordersOf
+taken-whole input orders count at n t e =
+    ap (λ (k : ℕ). made k orders at) (sym (t .found))
+    ∙ ap (λ (os : List Order). made (length ls) os at) (t .filled)
+    ∙ ap (λ (a : ℕ). made (length ls) (inBlock ls) a) (t .bytes)
+    ∙ ap (λ (x : List (List ℕ)). made (length x) (inBlock x) (bytesOf x)) e
+  where
+    ls : List (List ℕ)
+    ls = take count (wholeLines input)
+
+    made : ℕ → List Order → ℕ → Orders
+    made k os a = record { count = k; orders = os; at = a }
+
+-- no whole line is left
+pub no-more : (input : List ℕ) (orders : List Order) (count at n : ℕ) → Taken input orders count at n → length input - at ≤ n
+    → record { count = count; orders = orders; at = at } ≡ ordersIn input
+no-more input orders count at n t h =
+    let w = wholeLines input in
+    let none : drop count w ≡ [] = sym (left-of t) ∙ no-line (drop at input) (subst (λ (f : ℕ). length (drop at input) ≤ f) (t .next) (omega (arith, length-drop at input))) in
+    let few : length w ≤ count = omega (arith, length-drop count w, ap length none) in
+    taken-whole input orders count at n t (take-all count w few ∙ sym (take-all block w (omega (arith, t .few))))
+
+-- the block is full
+pub full : (input : List ℕ) (orders : List Order) (count at n : ℕ) → Taken input orders count at n → count ≡ block
+    → record { count = count; orders = orders; at = at } ≡ ordersIn input
+full input orders count at n t e = taken-whole input orders count at n t (ap (λ (k : ℕ). take k (wholeLines input)) e)

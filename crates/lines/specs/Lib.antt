@@ -1,0 +1,2 @@
+-- Lines by the block.
+pub mod Lines
