@@ -10,7 +10,7 @@ use native.Mathlib.Omega.{arith}
 use borrow.Author.Tests.{lt-ltb, le-ltb}
 use lib.Dec.{ltb}
 use lib.ListN.{length, getD, take, drop, set, length-set}
-use lib.Seq.{take-suc-set, take-set-le, drop-cons, drop-set-lt, getD-set-same, take-add}
+use lib.Seq.{take-suc-set, take-set-le, drop-cons, drop-set-lt, drop-drop, getD-set-same, take-add}
 use lib.IntN.{ℤ, pos, natAbs}
 use lib.Signed.{ltZ}
 use Rattle.text.specs.Replies.{Put, glyph, digits, placesUpTo, places, decimal, spaced, signed, bitsOf, joined, valueWords, replyText, enough, textFor}
@@ -20,19 +20,34 @@ use Rattle.settings.specs.declared.Value.{Value}
 use Rattle.settings.specs.declared.Value.the-variants.{Whole, Coefficient}
 
 pub byte : (l : List ℕ) (at b : ℕ) → at < length l → Put 1 l (set l at b) at (at + 1) (b ∷ [])
-byte l at b h = record { holds = rw (add-one at) (take-suc-set l at b h); most = le-refl (at + 1); room = length-set l at b }
+byte l at b h =
+    record {
+      holds = rw (add-one at) (take-suc-set l at b h);
+      least = omega arith;
+      most = le-refl (at + 1);
+      past = drop-set-lt (at + 1) l at b (omega arith);
+      room = length-set l at b;
+    }
+
+-- what is the same from a place on is so from a later one on
+pub behind : (at next : ℕ) (a b : List ℕ) → at ≤ next → drop at a ≡ drop at b → drop next a ≡ drop next b
+behind at next a b h e =
+    let on : next ≡ at + (next - at) = omega arith in
+    rw on (sym (drop-drop (next - at) at a) ∙ ap (drop (next - at)) e ∙ drop-drop (next - at) at b)
 
 -- one text after another
 pub two : {old mid new : List ℕ} {at a b : ℕ} {s t : List ℕ} {m n : ℕ} (k : ℕ) → m + n ≤ k → Put m old mid at a s → Put n mid new a b t → Put k old new at b (s ++ t)
 two {old} {mid} {new} {at} {a} {b} {s} {t} k h p q =
     record {
       holds = q .holds ∙ ap (λ (l : List ℕ). l ++ t) (p .holds) ∙ append-assoc (take at old) s t;
+      least = omega (arith, p .least, q .least);
       most = omega (arith, p .most, q .most);
+      past = q .past ∙ behind a b mid old (q .least) (p .past);
       room = q .room ∙ p .room;
     }
 
 pub looser : {old new : List ℕ} {at next n : ℕ} {s : List ℕ} (k : ℕ) → n ≤ k → Put n old new at next s → Put k old new at next s
-looser k h p = record { holds = p .holds; most = omega (arith, p .most); room = p .room }
+looser k h p = record { holds = p .holds; least = p .least; most = omega (arith, p .most); past = p .past; room = p .room }
 
 pub retext : {old new : List ℕ} {at next n : ℕ} {s t : List ℕ} → s ≡ t → Put n old new at next s → Put n old new at next t
 retext {old} {new} {at} {next} {n} e p = subst (λ (x : List ℕ). Put n old new at next x) e p
@@ -59,15 +74,17 @@ digit-more base at k j rest n l h q e =
     ∙ sym (ap (λ (m : ℕ). take m (drop (at + j) (set l (at + j) g))) s ∙ ap (take (suc (k - suc j))) (stored l (at + j) g (omega arith))))
 
 -- all of them stand
-pub digits-done : (base at k rest n : ℕ) (old l : List ℕ) → length l ≡ length old → take at l ≡ take at old
+pub digits-done : (base at k rest n : ℕ) (old l : List ℕ) → length l ≡ length old → take at l ≡ take at old → drop (at + k) l ≡ drop (at + k) old
     → digits base k n ≡ digits base 0 rest ++ take (k - 0) (drop (at + 0) l)
     → Put k old l at (at + k) (digits base k n)
 unfolding digits
-digits-done base at k rest n old l r t e =
+digits-done base at k rest n old l r t d e =
     let z : k - 0 ≡ k = omega arith in
     record {
       holds = take-add at k l ∙ ap (λ (x : List ℕ). x ++ take k (drop at l)) t ∙ ap (λ (x : List ℕ). take at old ++ x) (sym (rw (z, add-zero at) at e));
+      least = omega arith;
       most = le-refl (at + k);
+      past = d;
       room = r;
     }
 
@@ -134,7 +151,7 @@ coefficient-text f v e = rw (e, append-nil)
 -- ---- lines
 
 pub nothing-put : (old : List ℕ) (at : ℕ) → Put 256 old old at at []
-nothing-put old at = record { holds = sym (append-nil (take at old)); most = omega arith; room = refl }
+nothing-put old at = record { holds = sym (append-nil (take at old)); least = le-refl at; most = omega arith; past = refl; room = refl }
 
 pub little-room : (old : List ℕ) (at : ℕ) (r : Reply) → length old < at + enough → [] ≡ textFor old at r
 unfolding textFor

@@ -5,7 +5,7 @@ use mathlib.Core.Path.{_≡_}
 use mathlib.Core.Bool.{Bool, cond}
 use mathlib.Core.List.{List, [], _∷_, _++_}
 use lib.Dec.{ltb}
-use lib.ListN.{length, take}
+use lib.ListN.{length, take, drop}
 use lib.IntN.{ℤ, pos, natAbs}
 use lib.Signed.{ltZ}
 use lib.Ieee.{Float, isNan, toBits, binary64}
@@ -22,10 +22,13 @@ use Rattle.settings.specs.declared.Value.the-variants.{Whole, Coefficient}
 
 -- ---- a text put at a place
 
--- the text stands at the place, what was before it still does, the next place is after it, at most n bytes on, and the line has the same room
+-- the text stands at the place, what was before it still does, the next place is after it, at most n bytes on, what is from there on stays as it
+-- was, and the line has the same room
 pub record Put (n : ℕ) (old new : List ℕ) (at next : ℕ) (text : List ℕ) : Type 0 where
   pub holds : take next new ≡ take at old ++ text
+  pub least : at ≤ next
   pub most : next ≤ at + n
+  pub past : drop next new ≡ drop next old
   pub room : length new ≡ length old
 
 -- ---- numbers

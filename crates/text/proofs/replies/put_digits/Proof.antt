@@ -7,7 +7,7 @@ use Prim.Native.Nat.{ℕ, suc, _+_, _-_, _%_, _≤_, _<_}
 use native.Mathlib.Nat.{le-refl, sub-self, mod-lt}
 use native.Mathlib.Omega.{arith}
 use lib.ListN.{length, take, drop, length-set}
-use lib.Seq.{take-set-le}
+use lib.Seq.{take-set-le, drop-set-lt}
 use denote.Ref.{now}
 use Rattle.text.specs.Replies.{digits}
 use Rattle.text.proofs.Puts.{digit-more, digits-done}
@@ -19,7 +19,11 @@ use Rattle.text.proofs.replies.glyph_of.Reads as glyph-of-reads
 
 abbrev Inv-loop : tie.InvT-loop
 Inv-loop out₀ at base k n i₀ rest₀ out i rest =
-    (i ≤ k) × (length out ≡ length out₀) × (take at out ≡ take at out₀) × (digits base k n ≡ digits base i rest ++ take (k - i) (drop (at + i) out))
+    (i ≤ k)
+    × (length out ≡ length out₀)
+    × (take at out ≡ take at out₀)
+    × (digits base k n ≡ digits base i rest ++ take (k - i) (drop (at + i) out))
+    × (drop (at + k) out ≡ drop (at + k) out₀)
 
 abbrev μ-loop : tie.MeasureT-loop
 μ-loop out₀ at base k n i₀ rest₀ out i rest = i
@@ -27,7 +31,7 @@ abbrev μ-loop : tie.MeasureT-loop
 loop-holds : tie.Need-loop-holds Inv-loop μ-loop
 loop-holds c =
     let a = c .before .args in
-    (le-refl (a .k), refl, refl, rw (sub-self (a .k)) (sym (append-nil (digits (a .base) (a .k) (a .n)))))
+    (le-refl (a .k), refl, refl, rw (sub-self (a .k)) (sym (append-nil (digits (a .base) (a .k) (a .n)))), refl)
 
 sub-i : tie.Need-sub-i Inv-loop μ-loop
 sub-i c = omega arith
@@ -65,6 +69,7 @@ loop-again c =
       length-set (l .out) (a .at + j) (c .glyph-of .result) ∙ l .inv .1,
       take-set-le (a .at) (l .out) (a .at + j) (c .glyph-of .result) (omega arith) ∙ l .inv .2,
       rw (c .glyph-of .ensures) (digit-more (a .base) (a .at) (a .k) j (l .rest) (a .n) (l .out) (omega (arith, l .inv .1)) (omega arith) e),
+      drop-set-lt (a .at + a .k) (l .out) (a .at + j) (c .glyph-of .result) (omega arith) ∙ l .inv .4,
     )
 
 add-result : tie.Need-add-result Inv-loop μ-loop
@@ -79,7 +84,7 @@ returns c =
     let l = c .before .loop in
     let z : l .i ≡ 0 = omega arith in
     let e = subst (λ (x : ℕ). digits (a .base) (a .k) (a .n) ≡ digits (a .base) x (l .rest) ++ take (a .k - x) (drop (a .at + x) (l .out))) z (l .inv .3) in
-    digits-done (a .base) (a .at) (a .k) (l .rest) (a .n) (now (a .out)) (l .out) (l .inv .1) (l .inv .2) e
+    digits-done (a .base) (a .at) (a .k) (l .rest) (a .n) (now (a .out)) (l .out) (l .inv .1) (l .inv .2) (l .inv .4) e
 
 pub put-digits-spec : {M : Type 1} → statement M
 put-digits-spec =
