@@ -1,8 +1,7 @@
 -- The loop's way through an input: it cuts at the first line feed, and the rest again.
 -- Assumes nothing.
-use Prim.Native.Nat.{ℕ, zero, suc, _+_, _-_, _≤_, _<_, zero-le, suc-le-suc}
-use native.Mathlib.Nat.{le-refl, le-trans, not-suc-le-zero, le-of-suc-le-suc, add-zero, add-assoc}
-use native.Mathlib.Numerals.{add-one}
+use Prim.Native.Nat.{ℕ, zero, suc, _+_, _-_, _≤_, _<_, zero-le}
+use native.Mathlib.Nat.{le-trans, not-suc-le-zero, le-of-suc-le-suc}
 use native.Mathlib.Omega.{arith}
 use mathlib.Core.Path.{_≡_, refl, sym, ap, _∙_, subst}
 use mathlib.Core.Bool.{Bool, true, false, cond}
@@ -22,7 +21,7 @@ use Rattle.lines.specs.Lines.{lineFeed, inFront, wholeLines, bytesOf, or
 -- ---- the first line feed
 
 -- the bytes before it are the first line, and the lines after it are the others
-cut-first : (l : List ℕ) → firstOf lineFeed l < length l
+pub cut-first : (l : List ℕ) → firstOf lineFeed l < length l
     → wholeLines l ≡ take (firstOf lineFeed l) l ∷ wholeLines (drop (suc (firstOf lineFeed l)) l)
 unfolding firstOf wholeLines inFront
 cut-first [] h = absurd (not-suc-le-zero h)
@@ -85,7 +84,8 @@ others zero l = refl
 others (suc k) l = by-test (ltb (firstOf lineFeed l) (length l)) refl (others k (drop (suc (firstOf lineFeed l)) l))
   where
     by-test : (t : Bool) → ltb (firstOf lineFeed l) (length l) ≡ t
-        → wholeLines (drop (bytesOf (take k (wholeLines (drop (suc (firstOf lineFeed l)) l)))) (drop (suc (firstOf lineFeed l)) l)) ≡ drop k (wholeLines (drop (suc (firstOf lineFeed l)) l))
+        → wholeLines (drop (bytesOf (take k (wholeLines (drop (suc (firstOf lineFeed l)) l)))) (drop (suc (firstOf lineFeed l)) l))
+        ≡ drop k (wholeLines (drop (suc (firstOf lineFeed l)) l))
         → wholeLines (drop (bytesOf (take (suc k) (wholeLines l))) l) ≡ drop (suc k) (wholeLines l)
     by-test true e known =
         let f = firstOf lineFeed l in
@@ -96,7 +96,7 @@ others (suc k) l = by-test (ltb (firstOf lineFeed l) (length l)) refl (others k 
         let place : length (take f l) + 1 + b ≡ suc f + b = omega arith in
         let on : drop (length (take f l) + 1 + b) l ≡ drop b rest = ap (λ (m : ℕ). drop m l) place ∙ sym (drop-drop b (suc f) l) in
         rw (cut-first l h) (ap wholeLines on ∙ known)
-    by-test false e known = rw (no-line l (ltb-false (firstOf lineFeed l) (length l) e)) (no-line l (ltb-false (firstOf lineFeed l) (length l) e))
+    by-test false e known = let none : wholeLines l ≡ [] = no-line l (ltb-false (firstOf lineFeed l) (length l) e) in rw none none
 
 pub others-left : (input : List ℕ) → wholeLines (drop (ordersIn input .at) input) ≡ drop block (wholeLines input)
 unfolding ordersIn ordersOf
@@ -151,10 +151,10 @@ line-more input orders count at n t h q c f m e =
     let line = take n rest in
     let d : length rest ≡ length input - at = length-drop at input in
     let size : length line ≡ n = length-take-le n rest (omega arith) in
-    let cut : wholeLines rest ≡ line ∷ wholeLines (drop (suc n) rest) =
-    subst (λ (f : ℕ). wholeLines rest ≡ take f rest ∷ wholeLines (drop (suc f) rest)) (sym (t .next)) (cut-first rest (subst (λ (f : ℕ). f < length rest) (t .next) (omega arith))) in
-    let others : drop count w ≡ line ∷ wholeLines (drop (suc n) rest) = sym (left-of t) ∙ cut in
-    let taken : take (count + 1) w ≡ take count w ++ (line ∷ []) = take-add count 1 w ∙ ap (λ (x : List (List ℕ)). take count w ++ take 1 x) others in
+    let before : firstOf lineFeed rest < length rest = subst (λ (k : ℕ). k < length rest) (t .next) (omega arith) in
+    let cut : wholeLines rest ≡ line ∷ wholeLines (drop (suc n) rest) = rw (t .next) (cut-first rest before) in
+    let ahead : drop count w ≡ line ∷ wholeLines (drop (suc n) rest) = sym (left-of t) ∙ cut in
+    let taken : take (count + 1) w ≡ take count w ++ (line ∷ []) = take-add count 1 w ∙ ap (λ (x : List (List ℕ)). take count w ++ take 1 x) ahead in
     record {
       few = omega arith;
       found = ap length taken ∙ length-append (take count w) (line ∷ []) ∙ ap (λ (k : ℕ). k + 1) (t .found);
@@ -189,7 +189,8 @@ pub no-more : (input : List ℕ) (orders : List Order) (count at n : ℕ) → Ta
     → record { count = count; orders = orders; at = at } ≡ ordersIn input
 no-more input orders count at n t h =
     let w = wholeLines input in
-    let none : drop count w ≡ [] = sym (left-of t) ∙ no-line (drop at input) (subst (λ (f : ℕ). length (drop at input) ≤ f) (t .next) (omega (arith, length-drop at input))) in
+    let last : length (drop at input) ≤ firstOf lineFeed (drop at input) = subst (λ (k : ℕ). length (drop at input) ≤ k) (t .next) (omega (arith, length-drop at input)) in
+    let none : drop count w ≡ [] = sym (left-of t) ∙ no-line (drop at input) last in
     let few : length w ≤ count = omega (arith, length-drop count w, ap length none) in
     taken-whole input orders count at n t (take-all count w few ∙ sym (take-all block w (omega (arith, t .few))))
 

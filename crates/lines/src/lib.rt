@@ -1,8 +1,6 @@
 // Lines by the block: the commands of lines for a desk, and the lines of its answers.
 ghost use mathlib.Core.Path.{_≡_};
-ghost use Prim.Native.Nat.{_≤_};
-ghost use lib.ListN.{length};
-ghost use Rattle.lines.specs.Lines.{ordersIn};
+ghost use Rattle.lines.specs.Lines.{ordersIn, repliesFor, Fronted};
 use desk::Order;
 use desk::Said;
 
@@ -51,7 +49,7 @@ pub fn orders_in(input: &[u8]) -> Orders
 
 // A line for each of the first answers of a block, and how many bytes they are together. Nothing is put where there is not room for any.
 pub fn put_replies(out: &mut [u8], said: [Said; desk::BLOCK], count: usize) -> usize
-    ensures { λ r. ⌜ r ≤ length (now (out .exit)) ⌝ }
+    ensures { λ r. ⌜ Fronted (now (out .entry)) (now (out .exit)) (repliesFor (now (out .entry)) said count) r ⌝ }
 {
     if out.len() < ROOM {
         return 0;

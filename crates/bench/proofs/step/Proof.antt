@@ -7,6 +7,7 @@ use lib.ListN.{take, drop}
 use lib.Seq.{length-take-le}
 use denote.Ref.{now}
 use Rattle.lines.proofs.Cuts.{orders-within}
+use Rattle.lines.proofs.Fronts.{fronted-within}
 use Rattle.bench.proofs.Parts.{part-length}
 use borrow.Author.Needs.{needs}
 use Rattle.bench.proofs.step.Statement.{statement}
@@ -38,10 +39,10 @@ put-replies-requires : tie.Need-put-replies-requires
 put-replies-requires c κs = search needs
 
 slice-reshare-prefix-write-all : tie.Need-slice-reshare-prefix-write-all
-slice-reshare-prefix-write-all c = search needs
+slice-reshare-prefix-write-all c = fronted-within (c .before .before .put-replies .ensures)
 
 slice-aggregate-write-all : tie.Need-slice-aggregate-write-all
-slice-aggregate-write-all c = sym (length-take-le _ _ (c .before .before .before .put-replies .ensures))
+slice-aggregate-write-all c = sym (length-take-le _ _ (fronted-within (c .before .before .before .put-replies .ensures)))
 
 write-all-requires : tie.Need-write-all-requires
 write-all-requires c κs = search needs

@@ -1,10 +1,11 @@
--- `lines::put_replies` is safe and ends: each reply has its room.
+-- `lines::put_replies` meets its contract: each turn puts one reply behind the others, and each has its room.
 -- Assumes nothing.
 use borrow.Author.Needs.{needs}
-use mathlib.Core.Path.{_≡_, refl, _∙_}
-use Prim.Native.Nat.{_-_, _*_, _≤_}
+use Prim.Native.Nat.{_-_, _<_}
 use native.Mathlib.Omega.{arith}
-use lib.ListN.{length}
+use denote.Ref.{now}
+use Rattle.desk.specs.Desk.{block, nothingSaid}
+use Rattle.lines.proofs.Fronts.{Replied, none-replied, reply-more, no-room, all-replied}
 use Rattle.lines.proofs.put_replies.Statement.{statement}
 use Rattle.lines.proofs.put_replies.Tie as tie
 use Rattle.lines.proofs.put_replies.Reads as reads
@@ -12,22 +13,29 @@ use Rattle.lines.proofs.put_replies.Lts as lts
 use Rattle.text.proofs.replies.reply_line.Reads as reply-line-reads
 
 abbrev Inv-loop : tie.InvT-loop
-Inv-loop out₀ count said used₀ k₀ out used k = (k ≤ 256) × ((used ≤ k * 256) × ((65536 ≤ length out) × (length out ≡ length out₀)))
+Inv-loop out₀ count said used₀ k₀ out used k = Replied out₀ said count out used k
 
 abbrev μ-loop : tie.MeasureT-loop
 μ-loop out₀ count said used₀ k₀ out used k = count - k
 
 returns : tie.Need-returns Inv-loop μ-loop
-returns c = omega arith
+returns c =
+    let a = c .before .before .args in
+    no-room (now (a .out)) (a .t2) (a .count) (c .if1 .taken)
 
 loop-holds : tie.Need-loop-holds Inv-loop μ-loop
-loop-holds c = (omega arith, (omega arith, (omega (arith, c .if1 .left), refl)))
+loop-holds c =
+    let a = c .before .before .args in
+    none-replied (now (a .out)) (a .t2) (a .count) (c .if1 .left)
 
 same-length : tie.Need-same-length Inv-loop μ-loop
-same-length c = c .before .before .loop .inv .1 .1 .1
+same-length c = c .before .before .loop .inv .same
 
 returns-2 : tie.Need-returns-2 Inv-loop μ-loop
-returns-2 c = omega arith
+returns-2 c =
+    let a = c .before .before .before .before .before .args in
+    let l = c .before .before .loop in
+    all-replied (now (a .out)) (a .t2) (a .count) (l .out) (l .used) (l .k) (l .inv) (omega arith)
 
 mul-x : tie.Need-mul-x Inv-loop μ-loop
 mul-x c = omega arith
@@ -46,15 +54,22 @@ loop-less c = omega arith
 
 loop-again : tie.Need-loop-again Inv-loop μ-loop
 loop-again c =
-    let p = c .before .before .reply-line .ensures in
-    let i = c .before .before .before .before .before .before .before .loop .inv in
-    (omega arith, (omega (arith, p .most), (omega (arith, p .room, i .1 .1 .0), p .room ∙ i .1 .1 .1)))
+    let a = c .before .before .before .before .before .before .before .before .before .before .args in
+    let g = c .before .before .before .before .before .before .before .before .before .before .good in
+    let l = c .before .before .before .before .before .before .before .loop in
+    let p = c .before .before .reply-line in
+    let h : l .k < a .count = c .before .before .before .before .before .before .loop-test .taken in
+    let q : l .k < block = omega arith in
+    reply-more (now (a .out)) (a .t2) (a .count) (l .out) (p .last .0) (l .used) (p .result) (l .k) nothingSaid (l .inv) h q (g .1 .0 .1 .0 .1) (p .ensures)
 
 same-length-2 : tie.Need-same-length-2 Inv-loop μ-loop
-same-length-2 c = c .before .loop .inv .1 .1 .1
+same-length-2 c = c .before .loop .inv .same
 
 returns-3 : tie.Need-returns-3 Inv-loop μ-loop
-returns-3 c = omega arith
+returns-3 c =
+    let a = c .before .before .before .before .args in
+    let l = c .before .loop in
+    all-replied (now (a .out)) (a .t2) (a .count) (l .out) (l .used) (l .k) (l .inv) (omega arith)
 
 pub put-replies-spec : {M : Type 1} → statement M
 put-replies-spec =
