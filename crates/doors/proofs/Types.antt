@@ -10,14 +10,14 @@ use Rattle.doors.proofs.Plan.Laws as Plan″
 use Rattle.doors.proofs.AuditAnswer as AuditAnswer′
 use Rattle.doors.proofs.AuditAnswer.Laws as AuditAnswer″
 
-abbrev pub a-State : Known State′.the-row
+pub a-State : Known State′.the-row
 a-State = known-struct State′.the-type State″.the-laws State″.the-plain
 
-abbrev pub a-Answer : Known Answer′.the-row
+pub a-Answer : Known Answer′.the-row
 a-Answer = known-struct Answer′.the-type Answer″.the-laws Answer″.the-plain
 
-abbrev pub a-Plan : Known Plan′.the-row
+pub a-Plan : Known Plan′.the-row
 a-Plan = known-struct Plan′.the-type Plan″.the-laws Plan″.the-plain
 
-abbrev pub a-AuditAnswer : Known AuditAnswer′.the-row
+pub a-AuditAnswer : Known AuditAnswer′.the-row
 a-AuditAnswer = known-struct AuditAnswer′.the-type AuditAnswer″.the-laws AuditAnswer″.the-plain

@@ -14,20 +14,20 @@ use Rattle.panel.proofs.LogAnswer.Laws as LogAnswer″
 use Rattle.panel.proofs.ArchiveAnswer as ArchiveAnswer′
 use Rattle.panel.proofs.ArchiveAnswer.Laws as ArchiveAnswer″
 
-abbrev pub a-State : Known State′.the-row
+pub a-State : Known State′.the-row
 a-State = known-struct State′.the-type State″.the-laws State″.the-plain
 
-abbrev pub a-Answer : Known Answer′.the-row
+pub a-Answer : Known Answer′.the-row
 a-Answer = known-struct Answer′.the-type Answer″.the-laws Answer″.the-plain
 
-abbrev pub a-Plan : Known Plan′.the-row
+pub a-Plan : Known Plan′.the-row
 a-Plan = known-struct Plan′.the-type Plan″.the-laws Plan″.the-plain
 
-abbrev pub a-Sought : Known Sought′.the-row
+pub a-Sought : Known Sought′.the-row
 a-Sought = known-struct Sought′.the-type Sought″.the-laws Sought″.the-plain
 
-abbrev pub a-LogAnswer : Known LogAnswer′.the-row
+pub a-LogAnswer : Known LogAnswer′.the-row
 a-LogAnswer = known-struct LogAnswer′.the-type LogAnswer″.the-laws LogAnswer″.the-plain
 
-abbrev pub a-ArchiveAnswer : Known ArchiveAnswer′.the-row
+pub a-ArchiveAnswer : Known ArchiveAnswer′.the-row
 a-ArchiveAnswer = known-struct ArchiveAnswer′.the-type ArchiveAnswer″.the-laws ArchiveAnswer″.the-plain
