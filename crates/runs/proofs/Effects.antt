@@ -18,7 +18,7 @@ use Rattle.asked.specs.Asked.{lineRefusal}
 use Rattle.cycle.specs.Cycle.{Outcome, cycleRefusal, cycled, cycleOf}
 use Rattle.panel.specs.Panel.{Logged, turned, openRefusal, openOf, shutRefusal, shutOf, clearRefusal, cleared, clearOf, reportRefusal, reportOf, logLineOf, archiveLineOf}
 use Rattle.doors.specs.Doors.{Audited, placed, withSession, begun, beginRefusal, beginOf, abandonRefusal, abandonOf, readRefusal, readAfter, readOf, writeRefusal, writeAfter, writeOf, commitRefusal, commitLines, committed, refusedCommit, commitOf, auditLineOf, auditAnswered}
-use Rattle.runs.specs.Exactly.{Rows, applies, listsNumber, Given, orderlyB}
+use Rattle.runs.specs.Exactly.{Rows, applies, earlier, listsNumber, Given, orderlyB}
 use Rattle.runs.specs.Rows.{rowsOf, printedAfter, lastNumber, placeInTable, withState, refusedBy, refusalOf}
 use Rattle.runs.specs.Run.{Step, cycle, openLock, shutLock, clear, report, archiveLine, logLine, auditLine, begin, abandon, commit, read, write, World, Reply, plain, numberOf, cycles, logs, audits, step}
 use Rattle.runs.proofs.Exactly.{exactly, done-exactly}
@@ -169,6 +169,17 @@ in-table x w = rw (number-is x w) (few 0 (rowsOf x w) (printed x w))
 -- EACH REFUSAL EXACTLY WHEN ITS RULE SAYS, the first in the printed order
 pub refused-exactly : (x : Step) (w : World) (n : ℕ) → 0 < n → (numberOf ((step x w) .1) ≡ n) ↔ Given n (rowsOf x w)
 refused-exactly x w n l = rw (number-is x w) (exactly (rowsOf x w) (orderly x w) n l)
+
+-- and its rule may be said in other words, b, that are the same where no row before it applies
+pub refused-when : (x : Step) (w : World) (n : ℕ) → 0 < n → (b : Bool) → (earlier n (rowsOf x w) ≡ false → applies n (rowsOf x w) ≡ b)
+    → (numberOf ((step x w) .1) ≡ n) ↔ ((earlier n (rowsOf x w) ≡ false) × (b ≡ true))
+refused-when x w n l b same = (to, from)
+  where
+    to : numberOf ((step x w) .1) ≡ n → (earlier n (rowsOf x w) ≡ false) × (b ≡ true)
+    to e = let g = refused-exactly x w n l .0 e in (g .before, sym (same (g .before)) ∙ g .here)
+
+    from : (earlier n (rowsOf x w) ≡ false) × (b ≡ true) → numberOf ((step x w) .1) ≡ n
+    from (e, h) = refused-exactly x w n l .1 (record { here = same e ∙ h; before = e })
 
 -- DONE EXACTLY WHEN NO REFUSAL APPLIES
 pub accepted-exactly : (x : Step) (w : World) → (numberOf ((step x w) .1) ≡ 0) ↔ ((n : ℕ) → applies n (rowsOf x w) ≡ false)

@@ -14,5 +14,6 @@ pub mod Numbers
 pub mod Crossed
 pub mod Fixed
 pub mod Stale
+pub mod Open
 pub mod Times
 pub mod Latches

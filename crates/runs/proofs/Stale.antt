@@ -37,7 +37,7 @@ use Rattle.runs.specs.History.{History, history}
 use Rattle.runs.specs.Stale.{Deed, nothing, begins, commits, reads, writes, deed, beginsAt, commitsAt, readsAt, writesAt, hasRead, hasStaged, otherDoor, overtakenIn, stale}
 use Rattle.runs.proofs.Exactly.{silent}
 use Rattle.runs.proofs.Cells.{at-set, overtaken-length}
-use Rattle.runs.proofs.Effects.{after, number-is, world-is, refused-exactly}
+use Rattle.runs.proofs.Effects.{after, number-is, world-is, refused-when}
 
 -- ---- what a session's cells say, and what the history says
 
@@ -211,7 +211,7 @@ idle-both x w past e b = record {
 }
 
 -- the doors are 1 and 2
-each-door : (P : ℕ → Type 0) → P 1 → P 2 → (door : ℕ) → noDoor door ≡ false → P door
+pub each-door : (P : ℕ → Type 0) → P 1 → P 2 → (door : ℕ) → noDoor door ≡ false → P door
 each-door P p q zero e = absurd (true≢false e)
 each-door P p q (suc zero) e = p
 each-door P p q (suc (suc zero)) e = q
@@ -392,18 +392,10 @@ module _ (xs : List Step) (time supcode custcode : ℕ) (archive : List ArchiveL
   -- A COMMIT IS REFUSED BY 11 EXACTLY WHEN THE HISTORY CALLS IT STALE, where 1, 3, 4 and 10 do not come first
   pub stale-exactly : (door : ℕ)
       → (numberOf ((step (commit door) end) .1) ≡ 11) ↔ ((earlier 11 (rowsOf (commit door) end) ≡ false) × (stale door (history xs start) ≡ true))
-  stale-exactly door = (to, from)
+  stale-exactly door = refused-when (commit door) end 11 (omega arith) (stale door (history xs start)) same
     where
       same : earlier 11 (rowsOf (commit door) end) ≡ false → staleB (sessionAt (end .state) door .cells) ≡ stale door (history xs start)
       same e =
           let live : Bool = sessionAt (end .state) door .live in
           let (p, q) = passed (unsound end (eqb (length (end .audit)) auditLines)) (noDoor door) (not live) (lockMissing (end .state .core .locks) (sessionAt (end .state) door .cells) || false) e in
           stale-same door p (not-false live q)
-
-      to : numberOf ((step (commit door) end) .1) ≡ 11 → (earlier 11 (rowsOf (commit door) end) ≡ false) × (stale door (history xs start) ≡ true)
-      to e =
-          let g = refused-exactly (commit door) end 11 (omega arith) .0 e in
-          (g .before, sym (same (g .before)) ∙ g .here)
-
-      from : (earlier 11 (rowsOf (commit door) end) ≡ false) × (stale door (history xs start) ≡ true) → numberOf ((step (commit door) end) .1) ≡ 11
-      from (e, h) = refused-exactly (commit door) end 11 (omega arith) .1 (record { here = same e ∙ h; before = e })

@@ -6,4 +6,5 @@ pub mod Sums
 pub mod Lines
 pub mod History
 pub mod Stale
+pub mod Open
 pub mod Latches
