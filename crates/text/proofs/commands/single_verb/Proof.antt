@@ -1,7 +1,6 @@
 -- `text::commands::single_verb` meets its contract.
 -- Assumes nothing.
 use Rattle.text.specs.Commands.{singleVerb}
-use mathlib.Core.Path.{sym}
 use borrow.Author.Needs.{needs}
 use Rattle.text.proofs.commands.single_verb.Statement.{statement}
 use Rattle.text.proofs.commands.single_verb.Tie as tie
@@ -14,7 +13,7 @@ same-requires c κs = search needs
 
 returns : tie.Need-returns
 unfolding singleVerb
-returns c = simp (sym (c .before .same .ensures), c .if1 .taken)
+returns c = rw (← c .before .same .ensures, c .if1 .taken)
 
 slice-aggregate-same-2 : tie.Need-slice-aggregate-same-2
 slice-aggregate-same-2 c = search needs
@@ -24,7 +23,7 @@ same-requires-2 c κs = search needs
 
 returns-2 : tie.Need-returns-2
 unfolding singleVerb
-returns-2 c = simp (sym (c .before .same2 .ensures), sym (c .before .before .before .before .same .ensures), c .if2 .taken, c .before .before .before .if1 .left)
+returns-2 c = rw (← c .before .before .before .before .same .ensures, c .before .before .before .if1 .left, ← c .before .same2 .ensures, c .if2 .taken)
 
 slice-aggregate-same-3 : tie.Need-slice-aggregate-same-3
 slice-aggregate-same-3 c = search needs
@@ -34,7 +33,7 @@ same-requires-3 c κs = search needs
 
 returns-3 : tie.Need-returns-3
 unfolding singleVerb
-returns-3 c = simp (sym (c .before .same3 .ensures), sym (c .before .before .before .before .same2 .ensures), sym (c .before .before .before .before .before .before .before .same .ensures), c .if3 .taken, c .before .before .before .if2 .left, c .before .before .before .before .before .before .if1 .left)
+returns-3 c = rw (← c .before .before .before .before .before .before .before .same .ensures, c .before .before .before .before .before .before .if1 .left, ← c .before .before .before .before .same2 .ensures, c .before .before .before .if2 .left, ← c .before .same3 .ensures, c .if3 .taken)
 
 slice-aggregate-same-4 : tie.Need-slice-aggregate-same-4
 slice-aggregate-same-4 c = search needs
@@ -44,7 +43,7 @@ same-requires-4 c κs = search needs
 
 returns-4 : tie.Need-returns-4
 unfolding singleVerb
-returns-4 c = simp (sym (c .before .same4 .ensures), sym (c .before .before .before .before .same3 .ensures), sym (c .before .before .before .before .before .before .before .same2 .ensures), sym (c .before .before .before .before .before .before .before .before .before .before .same .ensures), c .if4 .taken, c .before .before .before .if3 .left, c .before .before .before .before .before .before .if2 .left, c .before .before .before .before .before .before .before .before .before .if1 .left)
+returns-4 c = rw (← c .before .before .before .before .before .before .before .before .before .before .same .ensures, c .before .before .before .before .before .before .before .before .before .if1 .left, ← c .before .before .before .before .before .before .before .same2 .ensures, c .before .before .before .before .before .before .if2 .left, ← c .before .before .before .before .same3 .ensures, c .before .before .before .if3 .left, ← c .before .same4 .ensures, c .if4 .taken)
 
 slice-aggregate-same-5 : tie.Need-slice-aggregate-same-5
 slice-aggregate-same-5 c = search needs
@@ -54,7 +53,7 @@ same-requires-5 c κs = search needs
 
 returns-5 : tie.Need-returns-5
 unfolding singleVerb
-returns-5 c = simp (sym (c .before .same5 .ensures), sym (c .before .before .before .before .same4 .ensures), sym (c .before .before .before .before .before .before .before .same3 .ensures), sym (c .before .before .before .before .before .before .before .before .before .before .same2 .ensures), sym (c .before .before .before .before .before .before .before .before .before .before .before .before .before .same .ensures), c .if5 .taken, c .before .before .before .if4 .left, c .before .before .before .before .before .before .if3 .left, c .before .before .before .before .before .before .before .before .before .if2 .left, c .before .before .before .before .before .before .before .before .before .before .before .before .if1 .left)
+returns-5 c = rw (← c .before .before .before .before .before .before .before .before .before .before .before .before .before .same .ensures, c .before .before .before .before .before .before .before .before .before .before .before .before .if1 .left, ← c .before .before .before .before .before .before .before .before .before .before .same2 .ensures, c .before .before .before .before .before .before .before .before .before .if2 .left, ← c .before .before .before .before .before .before .before .same3 .ensures, c .before .before .before .before .before .before .if3 .left, ← c .before .before .before .before .same4 .ensures, c .before .before .before .if4 .left, ← c .before .same5 .ensures, c .if5 .taken)
 
 slice-aggregate-same-6 : tie.Need-slice-aggregate-same-6
 slice-aggregate-same-6 c = search needs
@@ -64,7 +63,7 @@ same-requires-6 c κs = search needs
 
 returns-6 : tie.Need-returns-6
 unfolding singleVerb
-returns-6 c = simp (sym (c .before .same6 .ensures), sym (c .before .before .before .before .same5 .ensures), sym (c .before .before .before .before .before .before .before .same4 .ensures), sym (c .before .before .before .before .before .before .before .before .before .before .same3 .ensures), sym (c .before .before .before .before .before .before .before .before .before .before .before .before .before .same2 .ensures), sym (c .before .before .before .before .before .before .before .before .before .before .before .before .before .before .before .before .same .ensures), c .if6 .taken, c .before .before .before .if5 .left, c .before .before .before .before .before .before .if4 .left, c .before .before .before .before .before .before .before .before .before .if3 .left, c .before .before .before .before .before .before .before .before .before .before .before .before .if2 .left, c .before .before .before .before .before .before .before .before .before .before .before .before .before .before .before .if1 .left)
+returns-6 c = rw (← c .before .before .before .before .before .before .before .before .before .before .before .before .before .before .before .before .same .ensures, c .before .before .before .before .before .before .before .before .before .before .before .before .before .before .before .if1 .left, ← c .before .before .before .before .before .before .before .before .before .before .before .before .before .same2 .ensures, c .before .before .before .before .before .before .before .before .before .before .before .before .if2 .left, ← c .before .before .before .before .before .before .before .before .before .before .same3 .ensures, c .before .before .before .before .before .before .before .before .before .if3 .left, ← c .before .before .before .before .before .before .before .same4 .ensures, c .before .before .before .before .before .before .if4 .left, ← c .before .before .before .before .same5 .ensures, c .before .before .before .if5 .left, ← c .before .same6 .ensures, c .if6 .taken)
 
 slice-aggregate-same-7 : tie.Need-slice-aggregate-same-7
 slice-aggregate-same-7 c = search needs
@@ -74,11 +73,11 @@ same-requires-7 c κs = search needs
 
 returns-7 : tie.Need-returns-7
 unfolding singleVerb
-returns-7 c = simp (sym (c .before .same7 .ensures), sym (c .before .before .before .before .same6 .ensures), sym (c .before .before .before .before .before .before .before .same5 .ensures), sym (c .before .before .before .before .before .before .before .before .before .before .same4 .ensures), sym (c .before .before .before .before .before .before .before .before .before .before .before .before .before .same3 .ensures), sym (c .before .before .before .before .before .before .before .before .before .before .before .before .before .before .before .before .same2 .ensures), sym (c .before .before .before .before .before .before .before .before .before .before .before .before .before .before .before .before .before .before .before .same .ensures), c .if7 .taken, c .before .before .before .if6 .left, c .before .before .before .before .before .before .if5 .left, c .before .before .before .before .before .before .before .before .before .if4 .left, c .before .before .before .before .before .before .before .before .before .before .before .before .if3 .left, c .before .before .before .before .before .before .before .before .before .before .before .before .before .before .before .if2 .left, c .before .before .before .before .before .before .before .before .before .before .before .before .before .before .before .before .before .before .if1 .left)
+returns-7 c = rw (← c .before .before .before .before .before .before .before .before .before .before .before .before .before .before .before .before .before .before .before .same .ensures, c .before .before .before .before .before .before .before .before .before .before .before .before .before .before .before .before .before .before .if1 .left, ← c .before .before .before .before .before .before .before .before .before .before .before .before .before .before .before .before .same2 .ensures, c .before .before .before .before .before .before .before .before .before .before .before .before .before .before .before .if2 .left, ← c .before .before .before .before .before .before .before .before .before .before .before .before .before .same3 .ensures, c .before .before .before .before .before .before .before .before .before .before .before .before .if3 .left, ← c .before .before .before .before .before .before .before .before .before .before .same4 .ensures, c .before .before .before .before .before .before .before .before .before .if4 .left, ← c .before .before .before .before .before .before .before .same5 .ensures, c .before .before .before .before .before .before .if5 .left, ← c .before .before .before .before .same6 .ensures, c .before .before .before .if6 .left, ← c .before .same7 .ensures, c .if7 .taken)
 
 returns-8 : tie.Need-returns-8
 unfolding singleVerb
-returns-8 c = simp (sym (c .before .same7 .ensures), sym (c .before .before .before .before .same6 .ensures), sym (c .before .before .before .before .before .before .before .same5 .ensures), sym (c .before .before .before .before .before .before .before .before .before .before .same4 .ensures), sym (c .before .before .before .before .before .before .before .before .before .before .before .before .before .same3 .ensures), sym (c .before .before .before .before .before .before .before .before .before .before .before .before .before .before .before .before .same2 .ensures), sym (c .before .before .before .before .before .before .before .before .before .before .before .before .before .before .before .before .before .before .before .same .ensures), c .if7 .left, c .before .before .before .if6 .left, c .before .before .before .before .before .before .if5 .left, c .before .before .before .before .before .before .before .before .before .if4 .left, c .before .before .before .before .before .before .before .before .before .before .before .before .if3 .left, c .before .before .before .before .before .before .before .before .before .before .before .before .before .before .before .if2 .left, c .before .before .before .before .before .before .before .before .before .before .before .before .before .before .before .before .before .before .if1 .left)
+returns-8 c = rw (← c .before .before .before .before .before .before .before .before .before .before .before .before .before .before .before .before .before .before .before .same .ensures, c .before .before .before .before .before .before .before .before .before .before .before .before .before .before .before .before .before .before .if1 .left, ← c .before .before .before .before .before .before .before .before .before .before .before .before .before .before .before .before .same2 .ensures, c .before .before .before .before .before .before .before .before .before .before .before .before .before .before .before .if2 .left, ← c .before .before .before .before .before .before .before .before .before .before .before .before .before .same3 .ensures, c .before .before .before .before .before .before .before .before .before .before .before .before .if3 .left, ← c .before .before .before .before .before .before .before .before .before .before .same4 .ensures, c .before .before .before .before .before .before .before .before .before .if4 .left, ← c .before .before .before .before .before .before .before .same5 .ensures, c .before .before .before .before .before .before .if5 .left, ← c .before .before .before .before .same6 .ensures, c .before .before .before .if6 .left, ← c .before .same7 .ensures, c .if7 .left)
 
 pub single-verb-spec : {M : Type 1} → statement M
 single-verb-spec =
