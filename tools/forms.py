@@ -253,13 +253,7 @@ def ring(name, what="The borrow is opened before the loop and closed after it. E
     w.call(n_local, count, counted)
     n_fine = w.values[n_local][2]
     w.sets(k_local, "(of-opd ! (lit ! tt))", "(tt, record { fits = lit< tt })")
-    said = w.held.move("own-" + x) + "fsplit ! $ "
-    w.held.first(1, "pure", "borrow")
-    said += w.held.move("borrow") + "fsplit ! $ "
-    w.held.first(1, "obs", "bor")
-    said += w.held.move("obs", "bor", "token-" + x) + "opens-slice ! tt %s %s-now %s-b %s-o $" % (R, x, x, x)
-    w.held.first(3, "row", "open", "obs", "auth")
-    w.out(said)
+    w.opens(slice)
     w.out("rewrite ! 0 (λ (l : List %s). ‵ (row %s fullShare l %s-b %s-o)) (sym (wroteAt-none %s)) refl $" % (D, R, x, x, law))
     locals_ = " ".join("l%d" % i for i in range(w.count))
     everything = ["row", "open", "obs", "auth"] + [v for i in reversed(range(w.count)) for v in ("L%d" % i, "D%d" % i)]

@@ -30,13 +30,7 @@ def put(name, what="A branch tests the index: one arm opens the borrow, stores t
     w.sets(o_local, "(bin ! %s (lit ! tt) (%s))" % (w.look(i_local), fits), "(tt, %s)" % fits)
     w.sets(a_local, "(bin ! %s %s tt)" % (w.look_in(1, 0), w.look(o_local)), "(tt, tt)")
     w.out("rewrite ! %d (λ (j : ℕ). ‵ (fat fullShare tyPtr l%d 0 (vptr %s-b j))) (sym (place-is %s %s-o %s)) refl $" % (w.held.at("L%d" % a_local), a_local, x, bytes_, x, i))
-    said = w.held.move("own-" + x) + "fsplit ! $ "
-    w.held.first(1, "pure", "borrow")
-    said += w.held.move("borrow") + "fsplit ! $ "
-    w.held.first(1, "obs", "bor")
-    said += w.held.move("obs", "bor", "token-" + x) + "opens-slice ! tt %s %s-now %s-b %s-o $" % (R, x, x, x)
-    w.held.first(3, "row", "open", "obs", "auth")
-    w.out(said)
+    w.opens(slice)
     w.out("elem-out ! {R} (Is {R}) (shows 𝓤 H A {R}) (vals {K}) ({K} .tells) fullShare {x}-now {i} {v} {x}-b {x}-o {h} (λ _.".format(R=R, K=K, x=x, i=i, v=v, h=inside_))
     w.held.first(1, "element", "owned", "others")
     w.out("assigns ! (of-opd ! %s) (from ! (hop ! (look ! %d refl) (stop !))) (store-raw ! 0 refl %s) $" % (w.look(v_local), w.held.at("L%d" % a_local), w.typed(v, slice.type, v + "-fine")))

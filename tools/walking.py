@@ -699,6 +699,17 @@ class Walk:
         self.sets(local, "(of-opd ! %s)" % self.look_in(self.order.index(x) + 1, 1), "(tt, record { fits = room-%s .0 })" % x)
         self.values[local] = ("(length %s-now)" % x, self.type("usize"), "(refl, room-%s .0)" % x)
 
+    def opens(self, slice):
+        """The borrow of a slice is opened: its elements lie there in a row."""
+        x = slice.x
+        said = self.held.move("own-" + x) + "fsplit ! $ "
+        self.held.first(1, "pure", "borrow")
+        said += self.held.move("borrow") + "fsplit ! $ "
+        self.held.first(1, "obs", "bor")
+        said += self.held.move("obs", "bor", "token-" + x) + "opens-slice ! tt %s %s-now %s-b %s-o $" % (slice.type.row, x, x, x)
+        self.held.first(3, "row", "open", "obs", "auth")
+        self.out(said)
+
     def copy(self, local, text):
         value, type, fine = self.value(text, self.type(self.code.local_types[local]))
         self.sets(local, "(of-opd ! %s)" % self.operand(text), self.typed(value, type, fine))
