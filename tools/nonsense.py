@@ -4,9 +4,8 @@
     python3 tools/nonsense.py > crates/nonsense/stdout
 
 Nothing here comes from the program or from its crates: which states are whole, and which refusals apply to a command, is worked out again
-from document 01. The trials are those of crates/nonsense/src, in the same order. A line that names reasons ("early+many") names all that
-hold by the rules below, so that a trial that is not what it says is seen. At the end it is asked that every two reasons that can hold
-together were tried together, on each command.
+from document 01. The trials are those of crates/nonsense/src, in the same order. At the end it is asked that every two reasons that can
+hold together were tried together, on each command.
 """
 import struct
 from copy import deepcopy
@@ -208,13 +207,13 @@ NUMBER = {
 }
 
 LENT = {
-    "open_lock": ["log"],
-    "shut_lock": ["log"],
-    "log_line": ["log"],
-    "archive_line": ["archive"],
+    "open": ["log"],
+    "shut": ["log"],
+    "log": ["log"],
+    "archive": ["archive"],
     "cycle": ["archive", "log"],
     "commit": ["audit"],
-    "audit_line": ["audit"],
+    "audit": ["audit"],
 }
 
 
@@ -222,13 +221,13 @@ def reasons(command, s, args, lengths={}):
     """All that apply. `lengths` tells the stores that have not their exact length."""
     session = lambda: s.doors.get(args[0], Session())
     own = {
-        "open_lock": lambda lock, code: {"lock": lock not in (1, 2, 3), "code": lock in (2, 3) and code != s.codes[lock]},
-        "shut_lock": lambda lock: {"lock": lock not in (1, 2, 3)},
+        "open": lambda lock, code: {"lock": lock not in (1, 2, 3), "code": lock in (2, 3) and code != s.codes[lock]},
+        "shut": lambda lock: {"lock": lock not in (1, 2, 3)},
         "clear": lambda: {"right": not s.open & {1, 2}},
         "report": lambda: {},
-        "log_line": lambda i: {"unheld": i >= s.log[0]},
-        "archive_line": lambda i: {"unheld": i >= s.archive[0]},
-        "audit_line": lambda i: {"unheld": i >= s.audit[0]},
+        "log": lambda i: {"unheld": i >= s.log[0]},
+        "archive": lambda i: {"unheld": i >= s.archive[0]},
+        "audit": lambda i: {"unheld": i >= s.audit[0]},
         "cycle": lambda time, n: {"early": time < s.time, "late": time >= END_OF_TIME, "many": n > 600, "large": base_amount(s.settings, n) >= BASE_UNITS},
         "begin": lambda door: {"door": door not in (1, 2), "live": session().live},
         "abandon": lambda door: {"door": door not in (1, 2), "idle": not session().live},
@@ -252,9 +251,11 @@ def rights(s, session):
 def fate(command, s, args):
     """Where it is not refused: what comes back, against what was handed in."""
     x = s.doors.get(args[0]) if args else None
-    if command == "open_lock":
+    if command in ("report", "log", "archive", "audit"):
+        return "same"
+    if command == "open":
         return "same" if args[0] in s.open else "changed"
-    if command == "shut_lock":
+    if command == "shut":
         return "changed" if args[0] in s.open else "same"
     if command == "clear":
         return "changed" if any(latch and not present for latch, present in zip(s.latches, s.alarms)) else "same"
@@ -263,57 +264,78 @@ def fate(command, s, args):
     if command == "write":
         return "same" if x.staged.get(args[1]) == args[2] else "changed"
     if command == "abandon" or command == "commit" and not x.staged:
-        return "ended"
+        return "ended %d" % args[0]
     return "changed"
 
 
-VALUE_ONLY = ("report", "log_line", "archive_line", "audit_line")
+GIVES_VALUE = ("report", "log", "archive", "audit", "read")
 tried = set()
 
 
-def line(command, s, args, lengths={}, label=False, indent=""):
-    why = reasons(command, s, args, lengths)
+def shown(v):
+    if isinstance(v, int):
+        return str(v)
+    return "float nan" if v != v else "float " + struct.pack(">d", v).hex()
+
+
+def typed(command, args):
+    """The command as the bench is given it."""
+    words = [command] + [("c " + struct.pack(">d", a).hex() if isinstance(a, float) else "w %d" % a) if command == "write" and k == 2 else str(a) for k, a in enumerate(args)]
+    return " ".join(words + (["%d %d -" % (RAW, PASCALS)] if command == "cycle" else []))
+
+
+def line(command, s, args, lengths={}, clause=False):
+    # Where only a clause of "whole" is tried, what else applies does not matter: 1 comes first.
+    why = ["not-whole"] if clause and not whole(s) else reasons(command, s, args, lengths)
     tried.add((command, tuple(why)))
     number = NUMBER[why[0]] if why else 0
-    said = [indent + command] + ([("+".join(why))] if label and why else []) + [str(number)]
-    if command not in VALUE_ONLY:
-        said.append(fate(command, s, args) if number == 0 else "ended" if number in (10, 11, 12) and command == "commit" else "same")
-    if command in VALUE_ONLY + ("read",):
-        said.append("value" if number == 0 else "no-value")
-    print(" ".join(said))
+    ends = number in (10, 11, 12) and command == "commit"
+    said = fate(command, s, args) if number == 0 else "ended %d" % args[0] if ends else "same"
+    given = ["value"] if number == 0 and command in GIVES_VALUE else []
+    print("  %s: %d" % (typed(command, args), number), " ".join([said] + given))
+
+
+# ---- the commands that are put to a state
+
+EARLY, SOON, LATE = 99_999_999, 103_000_000, END_OF_TIME
+ACCEPTED = [
+    ("open", (2, 1234)),
+    ("shut", (1,)),
+    ("clear", ()),
+    ("report", ()),
+    ("log", (0,)),
+    ("archive", (0,)),
+    ("cycle", (SOON, 10)),
+    ("begin", (2,)),
+    ("abandon", (1,)),
+    ("read", (1, 2)),
+    ("write", (1, 15, 1_000)),
+    ("commit", (1,)),
+    ("audit", (0,)),
+]
+each = lambda command, *args: [(command, a) for a in args]
+ALL = ACCEPTED
+ALL = ALL + each("open", (0, 1234), (4, 0), (MOST, 0), (2, 0), (3, 1234)) + each("shut", (0,), (4,))
+ALL = ALL + each("log", (250,), (MOST,)) + each("archive", (15,), (MOST,)) + each("audit", (12,), (MOST,))
+ALL = ALL + each("cycle", (EARLY, 10), (SOON, 600), (LATE, 10), (EARLY, 601), (SOON, 601), (LATE, 601), (EARLY, MOST), (SOON, MOST), (MOST, MOST))
+ALL = ALL + each("begin", (0,), (1,), (3,)) + each("abandon", (0,), (2,), (3,)) + each("commit", (0,), (2,), (3,))
+ALL = ALL + each("read", (0, 1), (3, 1), (1, 0), (1, 22), (3, 22), (2, 22), (2, 1))
+ALL = ALL + each("write", (0, 1, 1), (3, 1, 5), (1, 22, 1), (1, 0, 1), (2, 22, 1), (2, 1, 1), (2, 1, 5), (1, 1, 5), (1, 1, 1.0), (1, 11, 1))
+ALL = ALL + each("write", (1, 11, inf), (1, 22, inf), (2, 0, inf), (3, 22, inf))
+
+
+def put(title, s, commands, lengths={}, clause=False):
+    print(title)
+    for command, args in commands:
+        line(command, s, args, lengths, clause)
 
 
 # ---- one clause at a time
 
-ACCEPTED = {
-    "open_lock": (2, 1234),
-    "shut_lock": (1,),
-    "clear": (),
-    "report": (),
-    "log_line": (0,),
-    "archive_line": (0,),
-    "cycle": (103_000_000, 10),
-    "begin": (2,),
-    "abandon": (1,),
-    "read": (1, 2),
-    "write": (1, 15, 1_000),
-    "commit": (1,),
-    "audit_line": (0,),
-}
-
 
 def every(title, s):
-    print(title)
-    if title.startswith("whole"):
-        assert whole(s)
-    for command, args in ACCEPTED.items():
-        if whole(s):
-            line(command, s, args, indent="  ")
-        else:
-            # What else applies to a state that is not whole does not matter here: 1 comes first.
-            said = ["  " + command, "1"] + (["same"] if command not in VALUE_ONLY else []) + (["no-value"] if command in VALUE_ONLY + ("read",) else [])
-            tried.add((command, ("not-whole",)))
-            print(" ".join(said))
+    assert whole(s) or not title.startswith("whole")
+    put(title, s, ACCEPTED, clause=True)
 
 
 TIMES = [
@@ -396,12 +418,6 @@ def clauses():
             every("read with no session %d %d" % (door, setting), s.with_cell(door, setting, read=True))
 
 
-def shown(v):
-    if isinstance(v, int):
-        return str(v)
-    return "float nan" if v != v else "float " + struct.pack(">d", v).hex()
-
-
 def values():
     for setting, (span, _, _) in TABLE.items():
         for v in [inf, -inf, nan, 0] if span is FINITE else [span[0] - 1, span[1] + 1, 1.0]:
@@ -415,89 +431,62 @@ def values():
 
 # ---- stores of a wrong length
 
-ASKED = [(2, 1234, 0, 103_000_000, 10), (4, 0, 250, 99_999_999, 601), (3, 0, MOST, END_OF_TIME, MOST)]
 
-
-def wrong_lengths(store):
-    return (LINES[store] - 1, LINES[store] + 1, 0)
-
-
-def lent(s):
-    for lock, code, i, time, n in ASKED:
-        for lines in wrong_lengths("log"):
-            print("logbook of %d lines: lock %d code %d line %d time %d n %d" % (lines, lock, code, i, time, n))
-            for command, args in (("open_lock", (lock, code)), ("shut_lock", (lock,)), ("log_line", (i,)), ("cycle", (time, n))):
-                line(command, s, args, {"log": lines}, indent="  ")
-    for _, _, i, time, n in ASKED:
-        for lines in wrong_lengths("archive"):
-            print("archive of %d lines: line %d time %d n %d" % (lines, i, time, n))
-            for command, args in (("archive_line", (i,)), ("cycle", (time, n))):
-                line(command, s, args, {"archive": lines}, indent="  ")
-    for door, i in ((1, 0), (2, 200), (3, MOST)):
-        audits(s, door, i)
-
-
-def audits(s, door, i):
-    for lines in wrong_lengths("audit"):
-        print("audit trail of %d lines: door %d line %d" % (lines, door, i))
-        for command, args in (("commit", (door,)), ("audit_line", (i,))):
-            line(command, s, args, {"audit": lines}, indent="  ")
+def wrong_lengths():
+    """Each store in turn one line short, one line long, and without a line; the others as they should be."""
+    for store, lines in LINES.items():
+        for wrong in (lines - 1, lines + 1, 0):
+            yield {**LINES, store: wrong}
 
 
 def lengths():
-    lent(State())
-    print("month 39")
-    lent(State().not_whole())
-    for title, s in (("no lock open", State().shut()), ("stale", State().stale()), ("pMax staged below pMin", State().crossed())):
-        print(title)
-        audits(s, 1, 12)
+    s = State()
+    for title, t in (("whole", s), ("month 39", s.not_whole()), ("no lock open", s.shut()), ("stale", s.stale()), ("pMax staged below pMin", s.crossed())):
+        for lent in wrong_lengths():
+            put("%s with stores of %d %d %d" % (title, lent["archive"], lent["log"], lent["audit"]), t, ALL, lent)
 
 
 # ---- several reasons at once
 
 
 def starts():
-    for time in (0, END_OF_TIME - 1):
-        print("start 0")
-    for time in (END_OF_TIME, MOST):
-        print("start late 6 as-from-0")
+    """To the state that a refused start hands back."""
+    print("started at 0 with codes 0")
+    for time in (0, END_OF_TIME - 1, END_OF_TIME, MOST):
+        print("  start %d 5 6: %s" % (time, "0 changed" if time < END_OF_TIME else "6 same"))
 
 
 def order():
     starts()
     s, two = State(), State(2)
-    bad, opened = s.not_whole(), s.but(open={1, 2, 3})
-    huge, ahead = s.with_setting(1, 16), s.but(time=MOST, month=1_199)
-    trials = [("open_lock", t, a) for t, a in ((s, (0, 1234)), (s, (4, 0)), (s, (MOST, 0)), (s, (2, 0)), (s, (3, 1234)), (opened, (2, 0)), (opened, (3, 0)), (bad, (4, 0)), (bad, (2, 0)))]
-    trials += [("shut_lock", t, a) for t, a in ((s, (0,)), (s, (4,)), (bad, (4,)))]
-    trials += [("clear", t, ()) for t in (s.shut(), bad.shut())] + [("report", bad, ())]
-    trials += [(command, t, (i,)) for command, i in (("log_line", 250), ("archive_line", 15), ("audit_line", 12)) for t in (s, bad)]
-    early, soon, late = 99_999_999, 103_000_000, END_OF_TIME
-    trials += [("cycle", s, a) for a in ((early, 10), (late, 10), (soon, 601), (early, 601), (late, 601), (soon, MOST), (early, MOST), (MOST, MOST))]
-    trials += [("cycle", t, a) for t, a in ((bad, (early, 10)), (bad, (late, 10)), (bad, (soon, 601)), (huge, (soon, 600)), (ahead, (late, 10)), (bad, (early, MOST)))]
-    trials += [("begin", t, (door,)) for t, door in ((two, 0), (two, 3), (two, 1), (two, 2), (bad, 3), (bad, 1))]
-    trials += [("abandon", t, (door,)) for t, door in ((s, 0), (s, 3), (s, 2), (bad, 3), (bad, 2))]
-    trials += [("read", t, a) for t, a in ((s, (0, 1)), (s, (3, 1)), (s, (1, 0)), (s, (1, 22)), (s, (3, 22)), (s, (2, 22)), (s, (2, 1)), (bad, (3, 1)), (bad, (1, 22)), (bad, (2, 1)))]
-    trials += [("write", s, a) for a in ((0, 1, 1), (3, 1, 5), (1, 22, 1), (1, 0, 1), (2, 22, 1), (2, 1, 1), (2, 1, 5), (1, 1, 5), (1, 1, 1.0), (1, 11, 1))]
-    trials += [("write", bad, a) for a in ((3, 1, 1), (1, 22, 1), (2, 1, 1), (1, 1, 5), (2, 1, 1.0))]
-    trials += [("write", s, a) for a in ((1, 11, inf), (1, 22, inf), (2, 0, inf), (3, 22, inf))]
-    at_one = [s.shut(), s.stale(), s.crossed(), s.stale().shut(), s.crossed().shut(), s.crossed().stale(), s.crossed().stale().shut()]
-    trials += [("commit", s, (door,)) for door in (0, 3, 2)] + [("commit", t, (1,)) for t in at_one] + [("commit", two.shut(), (2,))]
-    trials += [("commit", bad, (3,)), ("commit", bad, (2,))] + [("commit", t, (1,)) for t in (bad.shut(), bad.stale(), bad.crossed(), bad.crossed().stale().shut())]
-    for command, t, args in trials:
-        line(command, t, args, label=True)
+    put("one session", s, ALL)
+    put("two sessions", two, ALL)
+    put("all locks open", s.but(open={1, 2, 3}), ALL)
+    put("month 39", s.not_whole(), ALL)
+    put("cp code 16", s.with_setting(1, 16), ALL)
+    put("time past the end", s.but(time=MOST, month=1_199), ALL)
+    put("two sessions, no lock open", two.shut(), ALL)
+    for title, t in (("with one session", s), ("with month 39", s.not_whole())):
+        print(title)
+        put("no lock open", t.shut(), ALL)
+        put("stale", t.stale(), ALL)
+        put("crossed", t.crossed(), ALL)
+        put("no lock open, stale", t.stale().shut(), ALL)
+        put("no lock open, crossed", t.crossed().shut(), ALL)
+        put("stale, crossed", t.crossed().stale(), ALL)
+        put("no lock open, stale, crossed", t.crossed().stale().shut(), ALL)
 
 
 # ---- every two reasons that can hold together
 
 REASONS = {
-    "open_lock": ["not-whole", "length", "lock", "code"],
-    "shut_lock": ["not-whole", "length", "lock"],
+    "open": ["not-whole", "length", "lock", "code"],
+    "shut": ["not-whole", "length", "lock"],
     "clear": ["not-whole", "right"],
     "report": ["not-whole"],
-    "log_line": ["not-whole", "length", "unheld"],
-    "archive_line": ["not-whole", "length", "unheld"],
-    "audit_line": ["not-whole", "length", "unheld"],
+    "log": ["not-whole", "length", "unheld"],
+    "archive": ["not-whole", "length", "unheld"],
+    "audit": ["not-whole", "length", "unheld"],
     "cycle": ["not-whole", "length", "early", "late", "many", "large"],
     "begin": ["not-whole", "door", "live"],
     "abandon": ["not-whole", "door", "idle"],
@@ -507,7 +496,7 @@ REASONS = {
 }
 
 # A code is that of lock 2 or 3. A door that is none has no session, and where there is no session nothing is staged or read.
-NEVER = {("open_lock", "lock", "code"), ("begin", "door", "live")} | {("commit", a, b) for a in ("door", "idle") for b in ("right", "stale", "pairs")}
+NEVER = {("open", "lock", "code"), ("begin", "door", "live")} | {("commit", a, b) for a in ("door", "idle") for b in ("right", "stale", "pairs")}
 
 
 def all_tried():

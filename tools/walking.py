@@ -40,8 +40,9 @@ native.Mathlib.Nat: le-antisymm
 native.Mathlib.Numerals: add-one add-one-le add-one-dec
 mathlib.Core.WellFounded: WellFounded InvImage·wf
 mathlib.Core.Bool: Bool true false not
-mathlib.Core.List: [] _∷_ List
-lib.ListN: length set getD List·getD-eq-default
+mathlib.Core.List: [] _∷_ List _++_
+lib.ListN: length set getD List·getD-eq-default take take-append-drop
+lib.Seq: length-front
 lib.WfN: Nat·lt-wfRel
 lib.Dec: T ltb ltb→lt nltb→le lit<
 lib.IntN: ℤ
@@ -73,6 +74,7 @@ denote.Builtin: u8 u16 u32 u64 usize i64 f64 bool unit
 denote.Ref: RefT
 denote.Slice: sliceVal MutSlice ShrSlice Room heres codedHoleys slice-vals mut-slice-tells shr-slice-tells shr-slice-copy finally res-finally
 denote.Lend: Held
+borrow.Rule.Array.Share: room-take
 denote.Index: row place-is elem-out elem-back elem-put opens-slice closes-slice looks-slice shuts-slice
 denote.Signature: plain shrSliceOf
 denote.Steps: nothing
@@ -238,9 +240,9 @@ class Slice:
 class Array(Slice):
     """A local array that is lent for the time of a call."""
 
-    def __init__(self, local, ref, slice, mut, type):
+    def __init__(self, local, slice, mut, type, now, fine):
         self.local, self.slice, self.mut, self.array, self.type = local, slice, mut, type, type.element
-        self.x = "array%d" % local
+        self.x, self.now, self.fine = "array%d" % local, now, fine
 
     def ghost(self):
         return "γ%d" % self.local
@@ -312,6 +314,74 @@ class Array(Slice):
         w.told.append((ok, "Fine %s %s" % (K, arg(zs))))
 
 
+class Front(Array):
+    """The first elements of a local array, lent for the time of a call: as many as `count` says, which is `min m n` of an array of n. The laws
+    of that stand in crates/loans/proofs/Front.antt."""
+
+    def __init__(self, walk, local, slice, mut, type, whole, fine, count):
+        self.count, self.whole = arg(count), arg(whole)
+        super().__init__(local, slice, mut, type, "(take %s %s)" % (self.count, self.whole), fine)
+        walk.names.use(walk.names.proofs("loans", "Front"), "rest-row", "front-length", "lends-front", "shares-front", "front-joins")
+        walk.names.alias("lib.ListN", "{drop as past}")
+
+    def all_there(self):
+        """That the whole array has its length."""
+        return super().length()
+
+    def length(self):
+        m, n = re.match(r"\(min (.*) (\d+)\)$", self.count).groups()
+        return "(front-length %s %s %s %s)" % (arg(m), n, self.whole, self.all_there())
+
+    def lends(self, w, name):
+        """The local's cell is cut, and its first elements are lent for a new lifetime."""
+        l, α, γ = self.here(name).split()
+        R = self.type.row
+        w.out("rewrite ! %d (λ (m : ℕ). ‵ (fat fullShare %s l%d 0 (sliceVal (%s, 0) m))) (sym %s) refl $" % (w.held.at("L%d" % self.slice), w.ty(self.slice), self.slice, l, self.length()))
+        said = "lft-new ! tt (λ %s. has ! %s %s %s $ " % (α, self.array.known, self.whole, self.fine)
+        w.held.first(0, "own", "token-" + self.x)
+        said += w.held.move("L%d" % self.local, "own")
+        keeps = "Held %s (length %s) %s 0 %s" % (R, self.now, l, γ) if self.mut else "arr-parts (shares %s) (length %s) .part fullShare %s %s 0" % (R, self.now, self.now, l)
+        room = "(room-take %s %s %s %s %s (lit< tt, lit< tt))" % (R, self.array.count, self.count, self.whole, self.all_there())
+        said += "use2 W (later (some (λ (%s : GName). ‵ (rest-row %s %s %s %s) ⊛ (‵ (%s) ⊛ ‵ (flent (%s ∷ []) (%s)))))) (%s 𝓤 H A W %s %s tt (named %d) (%s ∷ []) %s %s (%s .val %s) %s %s) $ await ! tt $ pick ! (λ %s. split ! $ " % (
+            γ, R, self.count, self.whole, l, self.instance(self.own(self.now, self.number), name), α, keeps, "lends-front" if self.mut else "shares-front", R, self.array.count, self.number, α, self.count, self.whole, self.array.known, self.whole, l, room, γ)
+        w.held.first(2, "rest-" + self.x, "both")
+        said += w.held.move("both") + "split ! $"
+        w.held.first(1, "own-" + self.x, "kept-" + self.x)
+        w.open += 2
+        w.out(said)
+
+    def back(self, w, name, new):
+        """The lifetime is over: what was lent, at its last list, and the rest are the local's cell again."""
+        l, α, γ = self.here(name).split()
+        R, E, K, n = self.type.row, self.type.known, self.array.known, self.array.count
+        front = new[0] if new else self.now
+        row = "later (‵ (row %s fullShare %s %s 0))" % (R, front, l)
+        if self.mut:
+            said = w.held.move("dead-" + self.x, "kept-" + self.x, "last-" + self.x)
+            said += "use3 W (%s) (array-comes-back 𝓤 H A W %s %s (%s ∷ []) %s (length %s) %s %s) $ await ! tt $ " % (row, E, n, α, γ, self.now, front, l)
+            w.held.first(3, "row")
+        else:
+            said = w.held.move("dead-" + self.x, "kept-" + self.x)
+            said += "use2 W (%s) (shared-comes-back 𝓤 H A W %s %s (%s ∷ []) %s %s) $ await ! tt $ " % (row, E, n, α, front, l)
+            w.held.first(2, "row")
+        same = "len-%s-%s" % (self.x, name) if self.mut else "refl"
+        zs = "(%s ++ past %s %s)" % (front, self.count, self.whole)
+        said += w.held.move("row", "rest-" + self.x)
+        said += "use2 W (‵ (row %s fullShare %s %s 0)) (front-joins 𝓤 H A W %s %s %s %s %s %s) $ " % (R, zs, l, R, self.count, self.whole, front, l, same)
+        w.held.first(2, "row")
+        there = "(length-front %s %s %s %s ∙ %s)" % (self.whole, front, self.count, same, self.all_there())
+        if not self.mut:
+            said += "rewrite ! 0 (λ (ys : List %s). ‵ (row %s fullShare ys %s 0)) (take-append-drop %s %s) refl $ " % (self.type.means, R, l, self.count, self.whole)
+            zs, there = self.whole, self.all_there()
+        ok = "ok-%s-%s" % (self.x, name)
+        said += "use1 W (given (Fine %s %s) (‵ (fat fullShare %s %s 0 (%s .val %s)))) (array-back 𝓤 H A W %s %s %s %s %s) $ learn ! (λ %s." % (K, zs, w.ty(self.local), l, K, zs, E, n, zs, l, there, ok)
+        w.held.first(1, "L%d" % self.local)
+        w.open += 1
+        w.out(said)
+        w.values[self.local] = (zs, self.array, ok)
+        w.told.append((ok, "Fine %s %s" % (K, zs)))
+
+
 class Call:
     """One call of a walk: what it is handed (`parts`, in order: slices, or values with type and fineness), what its contract says of the
     answer and of each `&mut` slice that it is lent, and the texts of both."""
@@ -349,21 +419,22 @@ class Call:
         self.asks = walk.fill(sig.requires, sig, values, nows) if sig.requires else None
         self.arrays = [s for s in self.lent if isinstance(s, Array)]
         self.muts = [s for s in self.lent if s.mut]
-        self.named = self.names_of_answers() if walk.naming and self.turn else ""
+        self.named = self.names_of_answers() if walk.naming and (self.turn or self.muts) else ""
         self.plains = [(n, p) for n, p in enumerate(self.parts) if not isinstance(p, Slice)]
         self.texts_of_memory()
 
     def names_of_answers(self):
-        """A name for the answer and for each last list, as what they are in turn k: later texts stay short."""
-        text, name = "", "is-" + self.name
+        """A name for the answer and for each last list, in a loop as what they are in turn k: later texts stay short."""
+        text, kind, index = "", "ℕ → " if self.turn else "", " k" if self.turn else ""
         if self.path is not None:
-            text += "abbrev %s : ℕ → %s\n%s k = %s\n\n" % (name, self.result.means, name, self.answer)
-            self.answer = "(%s k)" % name
+            name = "is-" + self.name
+            text += "abbrev %s : %s%s\n%s%s = %s\n\n" % (name, kind, self.result.means, name, index, self.answer)
+            self.answer = arg(name + index)
         for s in self.muts:
             list_, path = self.news[s]
             name = "is-%s-%s" % (self.name, s.x)
-            text += "abbrev %s : ℕ → List %s\n%s k = %s\n\n" % (name, s.type.means, name, list_)
-            self.news[s] = ("(%s k)" % name, path)
+            text += "abbrev %s : %sList %s\n%s%s = %s\n\n" % (name, kind, s.type.means, name, index, list_)
+            self.news[s] = (arg(name + index), path)
         return text
 
     def texts_of_memory(self):
@@ -753,6 +824,15 @@ class Walk:
         c.step()
         if c.lent:
             c.after()
+
+    def forget(self, locals_):
+        self.out("".join("forget ! %d refl $ " % self.held.at("L%d" % i) for i in locals_))
+        self.filled -= set(locals_)
+
+    def forget_refs(self):
+        """The references that were lent are over."""
+        self.forget(sorted(set(self.refs) | set(self.lent), reverse=True))
+        self.refs, self.lent = {}, {}
 
     # -- the frame around the walk
     def leave(self, ret):

@@ -1,10 +1,4 @@
-# The commands over arrays that are lent for one call.
-structs = ["Turned", "Cycled", "Committed"]
-for length in ("short", "long", "empty"):
-    structs += ["loans::%s::%s%s" % (length, length.capitalize(), store) for store in ("Log", "Archive", "Audit")]
-types("loans", structs=structs)
-for command in ("open_lock", "shut_lock", "log_line", "archive_line", "cycle", "commit", "audit_line"):
-    straight("loans::" + command)
-for length in ("short", "long", "empty"):
-    for store in ("log", "archive", "audit"):
-        straight("loans::%s::with_%s_%s" % (length, length, store))
+# One command over the first lines of arrays, lent for its time.
+types("loans", structs=["Lent"])
+straight("loans::put", unfold="lentOf", apart=True,
+         said="(all-there s c archive log audit months events changes (archive-fine .1 .0 .1) (log-fine .1 .0 .1) (audit-fine .1 .0 .1))")

@@ -1,2 +1,2 @@
--- What the functions of this crate hand back.
+-- One command over stores of which the first lines are lent.
 pub mod Loans

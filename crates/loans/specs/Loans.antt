@@ -1,59 +1,30 @@
--- What the functions of this crate hand back: each answer, and each array as it came back. What a command answers is said by the definitions of
--- its own crate.
+-- One command over stores of which the first lines are lent: it comes to what it comes to over stores that have no other lines, and what is
+-- not lent comes back as it was.
 -- Assumes nothing.
-use mathlib.Core.List.{List}
+use Prim.Native.Nat.{ℕ}
+use mathlib.Core.List.{List, _++_}
+use lib.ListN.{take, drop}
 use Rattle.books.specs.declared.ArchiveLine.{ArchiveLine}
 use Rattle.books.specs.declared.LogLine.{LogLine}
 use Rattle.books.specs.declared.AuditLine.{AuditLine}
-use Rattle.state.specs.declared.Answer.{Answer}
-use Rattle.panel.specs.declared.LogAnswer.{LogAnswer}
-use Rattle.panel.specs.declared.ArchiveAnswer.{ArchiveAnswer}
-use Rattle.doors.specs.declared.AuditAnswer.{AuditAnswer}
-use Rattle.loans.specs.declared.Turned.{Turned}
-use Rattle.loans.specs.declared.Cycled.{Cycled}
-use Rattle.loans.specs.declared.Committed.{Committed}
-use Rattle.loans.specs.declared.short.ShortLog.{ShortLog}
-use Rattle.loans.specs.declared.short.ShortArchive.{ShortArchive}
-use Rattle.loans.specs.declared.short.ShortAudit.{ShortAudit}
-use Rattle.loans.specs.declared.long.LongLog.{LongLog}
-use Rattle.loans.specs.declared.long.LongArchive.{LongArchive}
-use Rattle.loans.specs.declared.long.LongAudit.{LongAudit}
-use Rattle.loans.specs.declared.empty.EmptyLog.{EmptyLog}
-use Rattle.loans.specs.declared.empty.EmptyArchive.{EmptyArchive}
-use Rattle.loans.specs.declared.empty.EmptyAudit.{EmptyAudit}
+use Rattle.state.specs.declared.State.{State}
+use Rattle.text.specs.declared.commands.Command.{Command}
+use Rattle.turns.specs.declared.Turn.{Turn}
+use Rattle.turns.specs.Turns.{Turned, shownOf, turnOf}
+use Rattle.loans.specs.declared.Lent.{Lent}
 
-unfoldable pub theTurned : Answer → List LogLine → Turned
-theTurned answer log = record { answer = answer; log = log }
+unfoldable pub theLent : Turn → List ArchiveLine → List LogLine → List AuditLine → Lent
+theLent turn archive log audit = record { turn = turn; archive = archive; log = log; audit = audit }
 
-unfoldable pub theCycled : Answer → List ArchiveLine → List LogLine → Cycled
-theCycled answer archive log = record { answer = answer; archive = archive; log = log }
+-- the command over these stores
+abbrev pub turned : State → Command → List ArchiveLine → List LogLine → List AuditLine → Turned
+turned s c archive log audit = turnOf s c (shownOf s c archive log audit) archive log audit
 
-unfoldable pub theCommitted : Answer → List AuditLine → Committed
-theCommitted answer audit = record { answer = answer; audit = audit }
+-- each store, with what was not lent of it
+abbrev pub withRest : Turned → List ArchiveLine → List LogLine → List AuditLine → Lent
+withRest t archive log audit = theLent (t .turn) (t .archive ++ archive) (t .log ++ log) (t .audit ++ audit)
 
-unfoldable pub theShortLog : Answer → List LogLine → Answer → List LogLine → LogAnswer → Answer → List ArchiveLine → List LogLine → ShortLog
-theShortLog opened afteropen shut aftershut shown cycled archive log = record { opened = opened; afteropen = afteropen; shut = shut; aftershut = aftershut; shown = shown; cycled = cycled; archive = archive; log = log }
-
-unfoldable pub theShortArchive : ArchiveAnswer → Answer → List ArchiveLine → List LogLine → ShortArchive
-theShortArchive shown cycled archive log = record { shown = shown; cycled = cycled; archive = archive; log = log }
-
-unfoldable pub theShortAudit : Answer → List AuditLine → AuditAnswer → ShortAudit
-theShortAudit committed audit shown = record { committed = committed; audit = audit; shown = shown }
-
-unfoldable pub theLongLog : Answer → List LogLine → Answer → List LogLine → LogAnswer → Answer → List ArchiveLine → List LogLine → LongLog
-theLongLog opened afteropen shut aftershut shown cycled archive log = record { opened = opened; afteropen = afteropen; shut = shut; aftershut = aftershut; shown = shown; cycled = cycled; archive = archive; log = log }
-
-unfoldable pub theLongArchive : ArchiveAnswer → Answer → List ArchiveLine → List LogLine → LongArchive
-theLongArchive shown cycled archive log = record { shown = shown; cycled = cycled; archive = archive; log = log }
-
-unfoldable pub theLongAudit : Answer → List AuditLine → AuditAnswer → LongAudit
-theLongAudit committed audit shown = record { committed = committed; audit = audit; shown = shown }
-
-unfoldable pub theEmptyLog : Answer → List LogLine → Answer → List LogLine → LogAnswer → Answer → List ArchiveLine → List LogLine → EmptyLog
-theEmptyLog opened afteropen shut aftershut shown cycled archive log = record { opened = opened; afteropen = afteropen; shut = shut; aftershut = aftershut; shown = shown; cycled = cycled; archive = archive; log = log }
-
-unfoldable pub theEmptyArchive : ArchiveAnswer → Answer → List ArchiveLine → List LogLine → EmptyArchive
-theEmptyArchive shown cycled archive log = record { shown = shown; cycled = cycled; archive = archive; log = log }
-
-unfoldable pub theEmptyAudit : Answer → List AuditLine → AuditAnswer → EmptyAudit
-theEmptyAudit committed audit shown = record { committed = committed; audit = audit; shown = shown }
+-- `take` of more lines than there are is all of them
+unfoldable pub lentOf : State → Command → List ArchiveLine → List LogLine → List AuditLine → ℕ → ℕ → ℕ → Lent
+lentOf s c archive log audit months events changes =
+    withRest (turned s c (take months archive) (take events log) (take changes audit)) (drop months archive) (drop events log) (drop changes audit)

@@ -1,5 +1,11 @@
 // Every command on states in which one clause of "whole" is broken, but for settings and staged values (see `values`). The states that are
 // whole stand at the ends of what is allowed.
+use crate::lists::every;
+use print::end;
+use print::flag;
+use print::number;
+use print::text;
+use print::title;
 use ring::Ring;
 use settings::Value;
 use state::Alarms;
@@ -11,11 +17,6 @@ use trials::base::seen;
 use trials::base::staged;
 use trials::base::two_sessions;
 use trials::change;
-use trials::commands::every;
-use trials::print::end;
-use trials::print::number;
-use trials::print::text;
-use trials::print::title;
 
 fn standing() {
     title(b"whole: one session");
@@ -75,14 +76,6 @@ fn amounts() {
     counters(0, 18_446_744_073_709_551_615, 0, 0);
     counters(0, 0, 18_446_744_073_709_551_615, 0);
     counters(0, 0, 0, 18_446_744_073_709_551_615);
-}
-
-fn flag(b: bool) {
-    if b {
-        text(b" yes");
-    } else {
-        text(b" no");
-    }
 }
 
 fn three(a: Alarms) {

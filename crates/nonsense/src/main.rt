@@ -3,6 +3,7 @@
 // out from the rules.
 mod clauses;
 mod lengths;
+mod lists;
 mod order;
 mod values;
 

@@ -1,14 +1,25 @@
 // Every command on states with one setting, in force or staged at a door, that does not fit, and with a pair out of order.
+use crate::lists::every;
+use print::end;
+use print::infinity;
+use print::not_a_number;
+use print::number;
+use print::text;
 use settings::Value;
 use trials::base::one_session;
 use trials::base::staged;
 use trials::base::two_sessions;
 use trials::change;
-use trials::commands::every;
-use trials::print::end;
-use trials::print::number;
-use trials::print::text;
-use trials::print::value;
+
+fn value(v: Value) {
+    match v {
+        Value::Whole(n) => print::signed(n),
+        Value::Coefficient(x) => {
+            text(b" float");
+            print::float(x);
+        }
+    }
+}
 
 fn at_door(door: u64, setting: u64, place: usize, v: Value) {
     text(b"staged");
@@ -35,14 +46,10 @@ fn whole(setting: u64, place: usize, below: i64, above: i64) {
     broken(setting, place, Value::Coefficient(1.0));
 }
 
-fn infinity() -> f64 {
-    1.7976931348623157e308 * 10.0
-}
-
 fn coefficient(setting: u64, place: usize) {
     broken(setting, place, Value::Coefficient(infinity()));
     broken(setting, place, Value::Coefficient(-infinity()));
-    broken(setting, place, Value::Coefficient(infinity() - infinity()));
+    broken(setting, place, Value::Coefficient(not_a_number()));
     broken(setting, place, Value::Whole(0));
 }
 

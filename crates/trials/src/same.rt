@@ -1,6 +1,6 @@
 // Whether two values are the same in every field. Floats are held together bit by bit; of two that are no number, only that they are none.
-use crate::print::bits;
 use ground::both;
+use print::bits;
 use settings::Value;
 use state::Alarms;
 use state::Cell;

@@ -4,6 +4,9 @@ use books::ArchiveLine;
 use books::AuditLine;
 use books::LogLine;
 use ground::both;
+use loans::ARCHIVE;
+use loans::AUDIT;
+use loans::LOG;
 use settings::Value;
 use units::BaseUnits;
 use units::Litres;
@@ -70,36 +73,36 @@ pub fn audit_same(a: AuditLine, b: AuditLine) -> bool {
     )
 }
 
-pub fn log() -> [LogLine; 250] {
+pub fn log() -> [LogLine; LOG] {
     let first = log_line(0);
-    let mut a = [first; 250];
-    for k in 0..250 {
+    let mut a = [first; LOG];
+    for k in 0..LOG {
         a[k] = log_line(k as u64);
     }
     a
 }
 
-pub fn archive() -> [ArchiveLine; 15] {
+pub fn archive() -> [ArchiveLine; ARCHIVE] {
     let first = archive_line(0);
-    let mut a = [first; 15];
-    for k in 0..15 {
+    let mut a = [first; ARCHIVE];
+    for k in 0..ARCHIVE {
         a[k] = archive_line(k as u64);
     }
     a
 }
 
-pub fn audit() -> [AuditLine; 200] {
+pub fn audit() -> [AuditLine; AUDIT] {
     let first = audit_line(0);
-    let mut a = [first; 200];
-    for k in 0..200 {
+    let mut a = [first; AUDIT];
+    for k in 0..AUDIT {
         a[k] = audit_line(k as u64);
     }
     a
 }
 
-pub fn log_kept(a: [LogLine; 250]) -> bool {
+pub fn log_kept(a: [LogLine; LOG]) -> bool {
     let mut good = true;
-    for k in 0..250 {
+    for k in 0..LOG {
         let x = a[k];
         let fine = log_same(x, log_line(k as u64));
         good = both(fine, good);
@@ -107,9 +110,9 @@ pub fn log_kept(a: [LogLine; 250]) -> bool {
     good
 }
 
-pub fn archive_kept(a: [ArchiveLine; 15]) -> bool {
+pub fn archive_kept(a: [ArchiveLine; ARCHIVE]) -> bool {
     let mut good = true;
-    for k in 0..15 {
+    for k in 0..ARCHIVE {
         let x = a[k];
         let fine = archive_same(x, archive_line(k as u64));
         good = both(fine, good);
@@ -117,9 +120,9 @@ pub fn archive_kept(a: [ArchiveLine; 15]) -> bool {
     good
 }
 
-pub fn audit_kept(a: [AuditLine; 200]) -> bool {
+pub fn audit_kept(a: [AuditLine; AUDIT]) -> bool {
     let mut good = true;
-    for k in 0..200 {
+    for k in 0..AUDIT {
         let x = a[k];
         let fine = audit_same(x, audit_line(k as u64));
         good = both(fine, good);

@@ -1,8 +1,8 @@
 // The two units: the pulse value, the amounts of a cycle, and sums under the rollover.
-use crate::print::end;
-use crate::print::gives;
-use crate::print::number;
-use crate::print::text;
+use print::end;
+use print::gives;
+use print::number;
+use print::text;
 use units::Amounts;
 use units::BaseUnits;
 use units::Litres;

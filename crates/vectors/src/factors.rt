@@ -1,8 +1,8 @@
 // The factor, of p, Tb, pb, T and K.
-use crate::print::end;
-use crate::print::gives;
-use crate::print::number;
-use crate::print::text;
+use print::end;
+use print::gives;
+use print::number;
+use print::text;
 
 fn factor(p: u64, tb: u64, pb: u64, t: u64, k: u64) {
     text(b"factor");

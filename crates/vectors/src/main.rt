@@ -4,7 +4,6 @@ mod amounts;
 mod factors;
 mod measures;
 mod months;
-mod print;
 mod stores;
 mod table;
 mod taken;

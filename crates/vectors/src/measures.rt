@@ -1,12 +1,12 @@
 // The temperature: the nearest hundredth of a float, and the equation.
-use crate::print::end;
-use crate::print::float;
-use crate::print::gives;
-use crate::print::infinity;
-use crate::print::not_a_number;
-use crate::print::number;
-use crate::print::signed;
-use crate::print::text;
+use print::end;
+use print::float;
+use print::gives;
+use print::infinity;
+use print::not_a_number;
+use print::number;
+use print::signed;
+use print::text;
 use temperature::Coefficients;
 use temperature::Measured;
 

@@ -1,9 +1,9 @@
 // The calendar: the last second before a day, and the first of it.
-use crate::print::end;
-use crate::print::flag;
-use crate::print::gives;
-use crate::print::number;
-use crate::print::text;
+use print::end;
+use print::flag;
+use print::gives;
+use print::number;
+use print::text;
 
 fn month(time: u64) {
     text(b"month");

@@ -1,9 +1,9 @@
 // The stores: what some number of lines written from fresh gives, where a line stands, and which states of a book are whole.
-use crate::print::end;
-use crate::print::flag;
-use crate::print::gives;
-use crate::print::number;
-use crate::print::text;
+use print::end;
+use print::flag;
+use print::gives;
+use print::number;
+use print::text;
 use ring::Book;
 use ring::Place;
 use ring::Ring;

@@ -1,15 +1,15 @@
 // The settings: which values fit, the factory values, the rights, and the pairs in order.
-use crate::print::end;
-use crate::print::flag;
-use crate::print::float;
-use crate::print::gives;
-use crate::print::infinity;
-use crate::print::not_a_number;
-use crate::print::number;
-use crate::print::pattern;
-use crate::print::signed;
-use crate::print::text;
-use crate::print::whole;
+use print::end;
+use print::flag;
+use print::float;
+use print::gives;
+use print::infinity;
+use print::not_a_number;
+use print::number;
+use print::pattern;
+use print::signed;
+use print::text;
+use print::whole;
 use settings::Setting;
 use settings::Value;
 

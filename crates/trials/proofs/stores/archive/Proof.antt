@@ -1,4 +1,4 @@
--- `stores::archive` is safe and ends: the place stays below 15.
+-- `stores::archive` is safe and ends: the place stays below 16.
 -- Assumes nothing.
 use Prim.Native.Nat.{_≤_, _-_}
 use native.Mathlib.Omega.{arith}
@@ -7,10 +7,10 @@ use Rattle.trials.proofs.stores.archive.Statement.{statement}
 use Rattle.trials.proofs.stores.archive.Tie as tie
 
 abbrev Inv-loop : tie.InvT-loop
-Inv-loop a₀ k₀ a k = k ≤ 15
+Inv-loop a₀ k₀ a k = k ≤ 16
 
 abbrev μ-loop : tie.MeasureT-loop
-μ-loop a₀ k₀ a k = 15 - k
+μ-loop a₀ k₀ a k = 16 - k
 
 archive-line-requires : tie.Need-archive-line-requires Inv-loop μ-loop
 archive-line-requires c κs = search needs

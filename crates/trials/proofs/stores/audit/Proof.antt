@@ -1,4 +1,4 @@
--- `stores::audit` is safe and ends: the place stays below 200.
+-- `stores::audit` is safe and ends: the place stays below 201.
 -- Assumes nothing.
 use Prim.Native.Nat.{_≤_, _-_}
 use native.Mathlib.Omega.{arith}
@@ -7,10 +7,10 @@ use Rattle.trials.proofs.stores.audit.Statement.{statement}
 use Rattle.trials.proofs.stores.audit.Tie as tie
 
 abbrev Inv-loop : tie.InvT-loop
-Inv-loop a₀ k₀ a k = k ≤ 200
+Inv-loop a₀ k₀ a k = k ≤ 201
 
 abbrev μ-loop : tie.MeasureT-loop
-μ-loop a₀ k₀ a k = 200 - k
+μ-loop a₀ k₀ a k = 201 - k
 
 audit-line-requires : tie.Need-audit-line-requires Inv-loop μ-loop
 audit-line-requires c κs = search needs

@@ -1,4 +1,4 @@
--- `stores::audit_kept` is safe and ends: the place stays below 200.
+-- `stores::audit_kept` is safe and ends: the place stays below 201.
 -- Assumes nothing.
 use Prim.Native.Nat.{_≤_, _-_}
 use native.Mathlib.Omega.{arith}
@@ -7,10 +7,10 @@ use Rattle.trials.proofs.stores.audit_kept.Statement.{statement}
 use Rattle.trials.proofs.stores.audit_kept.Tie as tie
 
 abbrev Inv-loop : tie.InvT-loop
-Inv-loop a good₀ k₀ good k = k ≤ 200
+Inv-loop a good₀ k₀ good k = k ≤ 201
 
 abbrev μ-loop : tie.MeasureT-loop
-μ-loop a good₀ k₀ good k = 200 - k
+μ-loop a good₀ k₀ good k = 201 - k
 
 loop-holds : tie.Need-loop-holds Inv-loop μ-loop
 loop-holds c = omega arith

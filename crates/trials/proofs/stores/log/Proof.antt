@@ -1,4 +1,4 @@
--- `stores::log` is safe and ends: the place stays below 250.
+-- `stores::log` is safe and ends: the place stays below 251.
 -- Assumes nothing.
 use Prim.Native.Nat.{_≤_, _-_}
 use native.Mathlib.Omega.{arith}
@@ -7,10 +7,10 @@ use Rattle.trials.proofs.stores.log.Statement.{statement}
 use Rattle.trials.proofs.stores.log.Tie as tie
 
 abbrev Inv-loop : tie.InvT-loop
-Inv-loop a₀ k₀ a k = k ≤ 250
+Inv-loop a₀ k₀ a k = k ≤ 251
 
 abbrev μ-loop : tie.MeasureT-loop
-μ-loop a₀ k₀ a k = 250 - k
+μ-loop a₀ k₀ a k = 251 - k
 
 log-line-requires : tie.Need-log-line-requires Inv-loop μ-loop
 log-line-requires c κs = search needs

@@ -1,4 +1,4 @@
--- `stores::log_kept` is safe and ends: the place stays below 250.
+-- `stores::log_kept` is safe and ends: the place stays below 251.
 -- Assumes nothing.
 use Prim.Native.Nat.{_≤_, _-_}
 use native.Mathlib.Omega.{arith}
@@ -7,10 +7,10 @@ use Rattle.trials.proofs.stores.log_kept.Statement.{statement}
 use Rattle.trials.proofs.stores.log_kept.Tie as tie
 
 abbrev Inv-loop : tie.InvT-loop
-Inv-loop a good₀ k₀ good k = k ≤ 250
+Inv-loop a good₀ k₀ good k = k ≤ 251
 
 abbrev μ-loop : tie.MeasureT-loop
-μ-loop a good₀ k₀ good k = 250 - k
+μ-loop a good₀ k₀ good k = 251 - k
 
 loop-holds : tie.Need-loop-holds Inv-loop μ-loop
 loop-holds c = omega arith
