@@ -390,7 +390,7 @@ def clauses():
     every("whole: one session", State())
     every("whole: two sessions", State(2))
     for time, month in TIMES:
-        every("time %d month %d" % (time, month), State().but(time=time, month=month))
+        every("time %d %d" % (time, month), State().but(time=time, month=month))
     rollovers = (LITRES, LITRES, BASE_UNITS, BASE_UNITS)
     amounts = [[r - 1 for r in rollovers]]
     amounts += [[r if i == k else 0 for i, r in enumerate(rollovers)] for k in range(4)]

@@ -316,12 +316,12 @@ class Array(Slice):
 
 class Front(Array):
     """The first elements of a local array, lent for the time of a call: as many as `count` says, which is `min m n` of an array of n. The laws
-    of that stand in crates/loans/proofs/Front.antt."""
+    of that stand in crates/trials/proofs/Front.antt."""
 
     def __init__(self, walk, local, slice, mut, type, whole, fine, count):
         self.count, self.whole = arg(count), arg(whole)
         super().__init__(local, slice, mut, type, "(take %s %s)" % (self.count, self.whole), fine)
-        walk.names.use(walk.names.proofs("loans", "Front"), "rest-row", "front-length", "lends-front", "shares-front", "front-joins")
+        walk.names.use(walk.names.proofs("trials", "Front"), "rest-row", "front-length", "lends-front", "shares-front", "front-joins")
         walk.names.alias("lib.ListN", "{drop as past}")
 
     def all_there(self):

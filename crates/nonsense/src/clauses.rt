@@ -9,6 +9,8 @@ use print::title;
 use ring::Ring;
 use settings::Value;
 use state::Alarms;
+use state::Cell;
+use state::State;
 use trials::base;
 use trials::base::alarms;
 use trials::base::book;
@@ -18,6 +20,32 @@ use trials::base::staged;
 use trials::base::two_sessions;
 use trials::change;
 
+// Titles.
+
+fn two(label: &[u8], m: u64, n: u64) {
+    text(label);
+    number(m);
+    number(n);
+    end();
+}
+
+fn of_book(label: &[u8], held: u64, next: u64, told: u16) {
+    text(label);
+    number(held);
+    number(next);
+    number(told as u64);
+    end();
+}
+
+fn four(label: &[u8], a: u64, b: u64, c: u64, d: u64) {
+    text(label);
+    number(a);
+    number(b);
+    number(c);
+    number(d);
+    end();
+}
+
 fn standing() {
     title(b"whole: one session");
     every(one_session());
@@ -26,11 +54,7 @@ fn standing() {
 }
 
 fn time(time: u64, month: u64) {
-    text(b"time");
-    number(time);
-    text(b" month");
-    number(month);
-    end();
+    two(b"time", time, month);
     every(change::time(one_session(), time, month));
 }
 
@@ -51,12 +75,7 @@ fn times() {
 }
 
 fn counters(vm: u64, vmd: u64, vb: u64, vbd: u64) {
-    text(b"counters");
-    number(vm);
-    number(vmd);
-    number(vb);
-    number(vbd);
-    end();
+    four(b"counters", vm, vmd, vb, vbd);
     let c = base::counters(vm, vmd, vb, vbd);
     every(change::counters(one_session(), c));
 }
@@ -84,12 +103,16 @@ fn three(a: Alarms) {
     flag(a.k);
 }
 
-fn latched(present: Alarms, latch: Alarms) {
+fn alarms_and_latches(present: Alarms, latch: Alarms) {
     text(b"alarms");
     three(present);
     text(b" latches");
     three(latch);
     end();
+}
+
+fn latched(present: Alarms, latch: Alarms) {
+    alarms_and_latches(present, latch);
     every(change::alarms(one_session(), present, latch));
 }
 
@@ -101,28 +124,17 @@ fn latches() {
 }
 
 fn archive(held: u64, next: u64) {
-    text(b"archive");
-    number(held);
-    number(next);
-    end();
+    two(b"archive", held, next);
     every(change::archive(one_session(), Ring { held, next }));
 }
 
 fn log(held: u64, next: u64, told: u16) {
-    text(b"logbook");
-    number(held);
-    number(next);
-    number(told as u64);
-    end();
+    of_book(b"logbook", held, next, told);
     every(change::log(one_session(), book(held, next, told)));
 }
 
 fn audit(held: u64, next: u64, told: u16) {
-    text(b"audit trail");
-    number(held);
-    number(next);
-    number(told as u64);
-    end();
+    of_book(b"audit trail", held, next, told);
     every(change::audit(one_session(), book(held, next, told)));
 }
 
@@ -167,29 +179,33 @@ fn audit_trails() {
     audit(200, 0, 204);
 }
 
+// What a session has staged or read, in one setting.
+fn seen_at(label: &[u8], s: State, door: u64, setting: u64, place: usize, c: Cell) {
+    two(label, door, setting);
+    every(change::cell(s, door, place, c));
+}
+
 // Marked as put in force through the other door, and not read.
 fn overtaken(door: u64, setting: u64, place: usize) {
-    text(b"overtaken and not read");
-    number(door);
-    number(setting);
-    end();
-    every(change::cell(two_sessions(), door, place, seen(false, true)));
+    let c = seen(false, true);
+    seen_at(
+        b"overtaken and not read",
+        two_sessions(),
+        door,
+        setting,
+        place,
+        c,
+    );
 }
 
 // Something staged or read where there is no session.
 fn left_over(door: u64, setting: u64, place: usize) {
     let none = state::no_session();
     let s = change::session(two_sessions(), door, none);
-    text(b"staged with no session");
-    number(door);
-    number(setting);
-    end();
-    every(change::cell(s, door, place, staged(Value::Whole(1))));
-    text(b"read with no session");
-    number(door);
-    number(setting);
-    end();
-    every(change::cell(s, door, place, seen(true, false)));
+    let one = staged(Value::Whole(1));
+    seen_at(b"staged with no session", s, door, setting, place, one);
+    let two = seen(true, false);
+    seen_at(b"read with no session", s, door, setting, place, two);
 }
 
 fn sessions() {

@@ -8,21 +8,23 @@ use trials::base::one_session;
 use trials::change;
 use trials::trial::Lines;
 
-fn lent(label: &[u8], s: State, months: usize, events: usize, changes: usize) {
+fn titled(label: &[u8], x: Lines) {
     text(label);
     text(b" with stores of");
-    number(months as u64);
-    number(events as u64);
-    number(changes as u64);
+    number(x.months as u64);
+    number(x.events as u64);
+    number(x.changes as u64);
     end();
-    all(
-        s,
-        Lines {
-            months,
-            events,
-            changes,
-        },
-    );
+}
+
+fn lent(label: &[u8], s: State, months: usize, events: usize, changes: usize) {
+    let x = Lines {
+        months,
+        events,
+        changes,
+    };
+    titled(label, x);
+    all(s, x);
 }
 
 fn every_length(label: &[u8], s: State) {

@@ -21,20 +21,22 @@ fn value(v: Value) {
     }
 }
 
-fn at_door(door: u64, setting: u64, place: usize, v: Value) {
-    text(b"staged");
-    number(door);
+fn titled(setting: u64, v: Value) {
     number(setting);
     value(v);
     end();
+}
+
+fn at_door(door: u64, setting: u64, place: usize, v: Value) {
+    text(b"staged");
+    number(door);
+    titled(setting, v);
     every(change::cell(two_sessions(), door, place, staged(v)));
 }
 
 fn broken(setting: u64, place: usize, v: Value) {
     text(b"setting");
-    number(setting);
-    value(v);
-    end();
+    titled(setting, v);
     every(change::setting(one_session(), place, v));
     at_door(1, setting, place, v);
     at_door(2, setting, place, v);
@@ -81,8 +83,8 @@ fn settings_broken() {
 fn pair(low: u64, place: usize, m: i64, next: usize, n: i64) {
     text(b"pair");
     number(low);
-    value(Value::Whole(m));
-    value(Value::Whole(n));
+    print::signed(m);
+    print::signed(n);
     end();
     let s = change::setting(one_session(), place, Value::Whole(m));
     every(change::setting(s, next, Value::Whole(n)));

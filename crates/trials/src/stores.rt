@@ -1,12 +1,12 @@
 // The stores that are lent: each line tells its own place, so that one written, moved or wiped is seen.
+use crate::lend::ARCHIVE;
+use crate::lend::AUDIT;
+use crate::lend::LOG;
 use crate::same::values;
 use books::ArchiveLine;
 use books::AuditLine;
 use books::LogLine;
 use ground::both;
-use loans::ARCHIVE;
-use loans::AUDIT;
-use loans::LOG;
 use settings::Value;
 use units::BaseUnits;
 use units::Litres;

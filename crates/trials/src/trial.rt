@@ -1,10 +1,11 @@
 // Trials of a state: commands as the bench is given them, one a line, each put to the state over stores of which some lines are lent. What is printed
 // is the command, the number that it answers, what has become of the state and the stores, and whether a value was given.
 use crate::change;
+use crate::lend;
+use crate::lend::Lent;
 use crate::same;
 use crate::stores;
 use ground::both;
-use loans::Lent;
 use print::end;
 use print::number;
 use print::text;
@@ -74,11 +75,11 @@ fn fate(s: State, after: State, kept: bool) {
     }
 }
 
-fn put(s: State, c: Command, x: Lines) -> Lent {
+fn outcome(s: State, c: Command, x: Lines) -> Lent {
     let archive = stores::archive();
     let log = stores::log();
     let audit = stores::audit();
-    loans::put(s, c, archive, log, audit, x.months, x.events, x.changes)
+    lend::put(s, c, archive, log, audit, x.months, x.events, x.changes)
 }
 
 fn told(s: State, t: Lent) {
@@ -94,7 +95,7 @@ fn told(s: State, t: Lent) {
 
 fn trial(line: &[u8], s: State, x: Lines) {
     let c = text::commands::command_of(line);
-    let t = put(s, c, x);
+    let t = outcome(s, c, x);
     text(b"  ");
     text(line);
     text(b":");

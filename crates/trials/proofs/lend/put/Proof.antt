@@ -1,4 +1,4 @@
--- `loans::put` meets its contract: a walk through its steps (tools/walk.py). It is a straight line.
+-- `trials::lend::put` meets its contract: a walk through its steps (tools/walk.py). It is a straight line.
 -- Assumes nothing.
 use mathlib.Core.Path.{_≡_, refl, sym, ap, _∙_}
 use Prim.Native.Nat.{ℕ, min}
@@ -52,21 +52,21 @@ use Rattle.turns.proofs.Types.{a-Command, a-Reply, a-Turn}
 use Rattle.books.specs.declared.ArchiveLine.{ArchiveLine}
 use Rattle.books.specs.declared.LogLine.{LogLine}
 use Rattle.books.specs.declared.AuditLine.{AuditLine}
-use Rattle.loans.proofs.Front.{rest-row, front-length, lends-front, shares-front, front-joins}
+use Rattle.trials.proofs.Front.{rest-row, front-length, lends-front, shares-front, front-joins}
 use Rattle.turns.specs.Turns.{shownOf, turnOf}
 use Rattle.turns.specs.declared.Turn.{Turn}
-use Rattle.loans.proofs.Types.{a-Lent}
-use Rattle.loans.specs.Loans.{theLent, lentOf}
-use Rattle.loans.proofs.Laws.{all-there}
+use Rattle.trials.proofs.Types.{a-Lent}
+use Rattle.trials.specs.Lend.{theLent, lentOf}
+use Rattle.trials.proofs.Laws.{all-there}
 use Rattle.state.proofs.State as State′
 use Rattle.text.proofs.commands.Command as Command′
 use Rattle.books.proofs.ArchiveLine as ArchiveLine′
 use Rattle.books.proofs.LogLine as LogLine′
 use Rattle.books.proofs.AuditLine as AuditLine′
-use Rattle.loans.proofs.at_most as at-most
-use Rattle.loans.proofs.at_most.Symbol as at-most-def
-use Rattle.loans.proofs.at_most.Symbol.{name as #loans·at-most}
-use Rattle.loans.proofs.at_most.Met as at-most-thm
+use Rattle.trials.proofs.lend.at_most as at-most
+use Rattle.trials.proofs.lend.at_most.Symbol as at-most-def
+use Rattle.trials.proofs.lend.at_most.Symbol.{name as #trials·lend·at-most}
+use Rattle.trials.proofs.lend.at_most.Met as at-most-thm
 use lib.ListN.{drop as past}
 use Rattle.turns.proofs.shown as shown
 use Rattle.turns.proofs.shown.Symbol as shown-def
@@ -76,15 +76,15 @@ use Rattle.turns.proofs.answer as answer
 use Rattle.turns.proofs.answer.Symbol as answer-def
 use Rattle.turns.proofs.answer.Symbol.{name as #turns·answer}
 use Rattle.turns.proofs.answer.Met as answer-thm
-use Rattle.loans.proofs.the_lent as the-lent
-use Rattle.loans.proofs.the_lent.Symbol as the-lent-def
-use Rattle.loans.proofs.the_lent.Symbol.{name as #loans·the-lent}
-use Rattle.loans.proofs.the_lent.Met as the-lent-thm
-use Rattle.loans.proofs.put.Key.{name as #loans·put}
-use Rattle.loans.proofs.put as fn
-use Rattle.loans.proofs.put.Statement as stated
-use Rattle.loans.proofs.put.Code as code
-use Rattle.loans.proofs.put.Code.Mir as M
+use Rattle.trials.proofs.lend.the_lent as the-lent
+use Rattle.trials.proofs.lend.the_lent.Symbol as the-lent-def
+use Rattle.trials.proofs.lend.the_lent.Symbol.{name as #trials·lend·the-lent}
+use Rattle.trials.proofs.lend.the_lent.Met as the-lent-thm
+use Rattle.trials.proofs.lend.put.Key.{name as #trials·lend·put}
+use Rattle.trials.proofs.lend.put as fn
+use Rattle.trials.proofs.lend.put.Statement as stated
+use Rattle.trials.proofs.lend.put.Code as code
+use Rattle.trials.proofs.lend.put.Code.Mir as M
 
 abbrev stayed : Stays (fn.ended .signature .params) (fn.ended .kept)
 stayed = (stay-dropped (plain (λ _. State′.the-row)) yes, (stay-dropped (plain (λ _. Command′.the-row)) yes, (stay-dropped (plain (λ _. (Array ArchiveLine′.the-row 16))) yes, (stay-dropped (plain (λ _. (Array LogLine′.the-row 251))) yes, (stay-dropped (plain (λ _. (Array AuditLine′.the-row 201))) yes, (stay-dropped (plain (λ _. usize)) yes, (stay-dropped (plain (λ _. usize)) yes, (stay-dropped (plain (λ _. usize)) yes, tt))))))))
@@ -185,13 +185,13 @@ module _ {M′ : Type 1} (𝓤 : URA M′) (H : Heap 𝓤) (A : Atoms 𝓤) (W :
       qed W [] ∵ suffices ! _ (ends-at 𝓤 H A fn.ended stayed (fn.clauses 𝓤 H A at-mem run) W ((tt, tt, tt, args, machine), tt) (a-Lent .val (theLent is-answer (is-answer-array9 ++ past (min months 16) archive) (is-answer-array10 ++ past (min events 251) log) (is-answer-array11 ++ past (min changes 201) audit))) (theLent is-answer (is-answer-array9 ++ past (min months 16) archive) (is-answer-array10 ++ past (min events 251) log) (is-answer-array11 ++ past (min changes 201) audit)) (tt, (tt, (tt, (tt, (tt, (tt, (tt, (tt, tt)))))))) (tt, (tt, (tt, (tt, (tt, (tt, (tt, (tt, tt))))))))) $ says ! (all-there s c archive log audit months events changes (archive-fine .1 .0 .1) (log-fine .1 .0 .1) (audit-fine .1 .0 .1)) $
       nothing ! $ frame ! $ nothing ! $ nothing ! $ fjoin ! $ nothing ! $ fjoin ! $ nothing ! $ fjoin ! $ nothing ! $ fjoin ! $ nothing ! $ fjoin ! $ nothing ! $ fjoin ! $ nothing ! $ fjoin ! $ nothing ! $ fjoin ! $ has ! a-Lent (theLent is-answer (is-answer-array9 ++ past (min months 16) archive) (is-answer-array10 ++ past (min events 251) log) (is-answer-array11 ++ past (min changes 201) audit)) ok $ move ! (1 ∷ 0 ∷ []) $ done !
 
-  module _ (𝓣 : Tables 𝓤 H) (known-at-most : Triple 𝓤 (𝓣 .C #loans·at-most) (Says-at-most 𝓤 H A at-mem run)) (known-shown : Triple 𝓤 (𝓣 .C #turns·shown) (Says-shown 𝓤 H A at-mem run)) (known-answer : Triple 𝓤 (𝓣 .C #turns·answer) (Says-answer 𝓤 H A at-mem run)) (known-the-lent : Triple 𝓤 (𝓣 .C #loans·the-lent) (Says-the-lent 𝓤 H A at-mem run)) where
+  module _ (𝓣 : Tables 𝓤 H) (known-at-most : Triple 𝓤 (𝓣 .C #trials·lend·at-most) (Says-at-most 𝓤 H A at-mem run)) (known-shown : Triple 𝓤 (𝓣 .C #turns·shown) (Says-shown 𝓤 H A at-mem run)) (known-answer : Triple 𝓤 (𝓣 .C #turns·answer) (Says-answer 𝓤 H A at-mem run)) (known-the-lent : Triple 𝓤 (𝓣 .C #trials·lend·the-lent) (Says-the-lent 𝓤 H A at-mem run)) where
     abbrev fm : FmC 𝓤 H (W .laws) (𝓣 .C)
     fm = fmOf 𝓤 H (W .laws) 𝓣
 
     -- the locals' types, as the listing writes them
     abbrev ty0 : Ty
-    ty0 = spell M.table (tyNamed ((108 ∷ 111 ∷ 97 ∷ 110 ∷ 115 ∷ 58 ∷ 58 ∷ 76 ∷ 101 ∷ 110 ∷ 116 ∷ []), []))
+    ty0 = spell M.table (tyNamed ((116 ∷ 114 ∷ 105 ∷ 97 ∷ 108 ∷ 115 ∷ 58 ∷ 58 ∷ 108 ∷ 101 ∷ 110 ∷ 100 ∷ 58 ∷ 58 ∷ 76 ∷ 101 ∷ 110 ∷ 116 ∷ []), []))
 
     abbrev ty1 : Ty
     ty1 = spell M.table (tyNamed ((115 ∷ 116 ∷ 97 ∷ 116 ∷ 101 ∷ 58 ∷ 58 ∷ 83 ∷ 116 ∷ 97 ∷ 116 ∷ 101 ∷ []), []))
@@ -369,7 +369,7 @@ module _ {M′ : Type 1} (𝓤 : URA M′) (H : Heap 𝓤) (A : Atoms 𝓤) (W :
         pass1 ! (init ! 60 refl (a-State .lawful 𝓤 H A W .typed s _ s-fine .0)) $ pass1 ! (init ! 58 refl (a-Command .lawful 𝓤 H A W .typed c _ c-fine .0)) $ pass1 ! (init ! 56 refl ((known-array a-ArchiveLine 16) .lawful 𝓤 H A W .typed archive _ archive-fine .0)) $ pass1 ! (init ! 54 refl ((known-array a-LogLine 251) .lawful 𝓤 H A W .typed log _ log-fine .0)) $ pass1 ! (init ! 52 refl ((known-array a-AuditLine 201) .lawful 𝓤 H A W .typed audit _ audit-fine .0)) $ pass1 ! (init ! 50 refl (a-usize .lawful 𝓤 H A W .typed months _ months-fine .0)) $ pass1 ! (init ! 48 refl (a-usize .lawful 𝓤 H A W .typed events _ events-fine .0)) $ pass1 ! (init ! 46 refl (a-usize .lawful 𝓤 H A W .typed changes _ changes-fine .0)) $ pass0 ! $
         passed l0 l1 l2 l3 l4 l5 l6 l7 l8 l9 l10 l11 l12 l13 l14 l15 l16 l17 l18 l19 l20 l21 l22 l23 l24 l25 l26 l27 l28 l29 l30 l31))))))))))))))))))))))))))))))))
 
-module _ {M′ : Type 1} (𝓤 : URA M′) (H : Heap 𝓤) (A : Atoms 𝓤) (W : Given 𝓤 H A) (at-mem : Memory → SProp 𝓤) (run : Routine → Fun 𝓤) (𝓣 : Tables 𝓤 H) (known-at-most : Triple 𝓤 (𝓣 .C #loans·at-most) (Says-at-most 𝓤 H A at-mem run)) (known-shown : Triple 𝓤 (𝓣 .C #turns·shown) (Says-shown 𝓤 H A at-mem run)) (known-answer : Triple 𝓤 (𝓣 .C #turns·answer) (Says-answer 𝓤 H A at-mem run)) (known-the-lent : Triple 𝓤 (𝓣 .C #loans·the-lent) (Says-the-lent 𝓤 H A at-mem run)) where
+module _ {M′ : Type 1} (𝓤 : URA M′) (H : Heap 𝓤) (A : Atoms 𝓤) (W : Given 𝓤 H A) (at-mem : Memory → SProp 𝓤) (run : Routine → Fun 𝓤) (𝓣 : Tables 𝓤 H) (known-at-most : Triple 𝓤 (𝓣 .C #trials·lend·at-most) (Says-at-most 𝓤 H A at-mem run)) (known-shown : Triple 𝓤 (𝓣 .C #turns·shown) (Says-shown 𝓤 H A at-mem run)) (known-answer : Triple 𝓤 (𝓣 .C #turns·answer) (Says-answer 𝓤 H A at-mem run)) (known-the-lent : Triple 𝓤 (𝓣 .C #trials·lend·the-lent) (Says-the-lent 𝓤 H A at-mem run)) where
   walks : Walks 𝓤 H A fn.ended stayed (WpFn 𝓤 H (𝓣 .C) (𝓣 .Λ) code.function) (fn.clauses 𝓤 H A at-mem run)
   walks = walked 𝓤 H A fn.ended stayed (fn.clauses 𝓤 H A at-mem run) (WpFn 𝓤 H (𝓣 .C) (𝓣 .Λ) code.function)
       (λ κs. (vals a-State, (vals a-Command, (vals (known-array a-ArchiveLine 16), (vals (known-array a-LogLine 251), (vals (known-array a-AuditLine 201), (vals a-usize, (vals a-usize, (vals a-usize, tt))))))))) (λ κs. (a-State .tells, (a-Command .tells, ((known-array a-ArchiveLine 16) .tells, ((known-array a-LogLine 251) .tells, ((known-array a-AuditLine 201) .tells, (a-usize .tells, (a-usize .tells, (a-usize .tells, tt)))))))))
@@ -385,9 +385,9 @@ pub put-spec : {M′ : Type 1} → stated.statement M′
 unfolding code.routine tablesOf
 put-spec 𝓤 H 𝓜 𝓖 𝓡 =
     entered 𝓤 H (tripleOf 𝓤 H (𝓖 .A) fn.signature (fn.spec 𝓤 H (𝓖 .A) (𝓜 .mem) (𝓡 .run)))
-    (tables 𝓤 H 𝓜 𝓡 code.env .C) (tables 𝓤 H 𝓜 𝓡 code.env .Λ) #loans·put code.function (code.unfolded 𝓤 H 𝓜 𝓡)
+    (tables 𝓤 H 𝓜 𝓡 code.env .C) (tables 𝓤 H 𝓜 𝓡 code.env .Λ) #trials·lend·put code.function (code.unfolded 𝓤 H 𝓜 𝓡)
     (meets 𝓤 H (𝓖 .A) (givenOf 𝓤 H 𝓜 𝓖) (𝓜 .mem) (𝓡 .run) (tablesOf 𝓤 H 𝓜 (tables 𝓤 H 𝓜 𝓡 code.env))
-    (cited 𝓤 H (Says-at-most 𝓤 H (𝓖 .A) (𝓜 .mem) (𝓡 .run)) 𝓜 𝓡 code.env #loans·at-most at-most-def.routine code.calls-loans·at-most (at-most-thm.met 𝓤 H 𝓜 𝓖 𝓡))
+    (cited 𝓤 H (Says-at-most 𝓤 H (𝓖 .A) (𝓜 .mem) (𝓡 .run)) 𝓜 𝓡 code.env #trials·lend·at-most at-most-def.routine code.calls-trials·lend·at-most (at-most-thm.met 𝓤 H 𝓜 𝓖 𝓡))
     (cited 𝓤 H (Says-shown 𝓤 H (𝓖 .A) (𝓜 .mem) (𝓡 .run)) 𝓜 𝓡 code.env #turns·shown shown-def.routine code.calls-turns·shown (shown-thm.met 𝓤 H 𝓜 𝓖 𝓡))
     (cited 𝓤 H (Says-answer 𝓤 H (𝓖 .A) (𝓜 .mem) (𝓡 .run)) 𝓜 𝓡 code.env #turns·answer answer-def.routine code.calls-turns·answer (answer-thm.met 𝓤 H 𝓜 𝓖 𝓡))
-    (cited 𝓤 H (Says-the-lent 𝓤 H (𝓖 .A) (𝓜 .mem) (𝓡 .run)) 𝓜 𝓡 code.env #loans·the-lent the-lent-def.routine code.calls-loans·the-lent (the-lent-thm.met 𝓤 H 𝓜 𝓖 𝓡)))
+    (cited 𝓤 H (Says-the-lent 𝓤 H (𝓖 .A) (𝓜 .mem) (𝓡 .run)) 𝓜 𝓡 code.env #trials·lend·the-lent the-lent-def.routine code.calls-trials·lend·the-lent (the-lent-thm.met 𝓤 H 𝓜 𝓖 𝓡)))

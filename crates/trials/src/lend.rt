@@ -8,7 +8,7 @@ use text::commands::Command;
 use turns::Turn;
 ghost use mathlib.Core.Path.{_≡_};
 ghost use Prim.Native.Nat.{min};
-ghost use Rattle.loans.specs.Loans.{theLent, lentOf};
+ghost use Rattle.trials.specs.Lend.{theLent, lentOf};
 
 pub const ARCHIVE: usize = ring::ARCHIVE_LINES as usize + 1;
 

@@ -1,2 +1,2 @@
 -- One command over stores of which the first lines are lent.
-pub mod Loans
+pub mod Lend

@@ -11,7 +11,7 @@ use Rattle.state.specs.declared.State.{State}
 use Rattle.text.specs.declared.commands.Command.{Command}
 use Rattle.turns.specs.declared.Turn.{Turn}
 use Rattle.turns.specs.Turns.{Turned, shownOf, turnOf}
-use Rattle.loans.specs.declared.Lent.{Lent}
+use Rattle.trials.specs.declared.lend.Lent.{Lent}
 
 unfoldable pub theLent : Turn → List ArchiveLine → List LogLine → List AuditLine → Lent
 theLent turn archive log audit = record { turn = turn; archive = archive; log = log; audit = audit }

@@ -1,4 +1,4 @@
 # One command over the first lines of arrays, lent for its time.
-types("loans", structs=["Lent"])
-straight("loans::put", unfold="lentOf", apart=True,
+types("trials", structs=["trials::lend::Lent"])
+straight("trials::lend::put", unfold="lentOf", apart=True,
          said="(all-there s c archive log audit months events changes (archive-fine .1 .0 .1) (log-fine .1 .0 .1) (audit-fine .1 .0 .1))")

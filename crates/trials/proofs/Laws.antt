@@ -11,7 +11,7 @@ use Rattle.books.specs.declared.LogLine.{LogLine}
 use Rattle.books.specs.declared.AuditLine.{AuditLine}
 use Rattle.state.specs.declared.State.{State}
 use Rattle.text.specs.declared.commands.Command.{Command}
-use Rattle.loans.specs.Loans.{turned, withRest, lentOf}
+use Rattle.trials.specs.Lend.{turned, withRest, lentOf}
 
 module _ {A : Type 0} where
   take-all-there : (m : ℕ) (xs : List A) → take (min m (length xs)) xs ≡ take m xs
