@@ -43,7 +43,7 @@ fn refill(input: &mut [u8], from: usize, have: usize) -> Window
     }
     if 0 < held {
         if held < input.len() {
-            input[held] = lines::LINE_FEED;
+            input[held] = text::words::LINE_FEED;
             return Window {
                 from: 0,
                 have: held + 1,

@@ -3,8 +3,7 @@ ghost use mathlib.Core.Path.{_≡_};
 ghost use Rattle.lines.specs.Lines.{ordersIn, repliesFor, Fronted};
 use desk::Order;
 use desk::Said;
-
-pub const LINE_FEED: u8 = 10;
+use text::words::LINE_FEED;
 
 // Room for a block of the longest replies.
 pub const ROOM: usize = 256 * desk::BLOCK;

@@ -57,7 +57,7 @@ fn number_in(w: &[u8]) -> u64 {
 }
 
 fn timed(input: &[u8]) -> u64 {
-    let n = text::words::first_of(input, lines::LINE_FEED);
+    let n = text::words::first_of(input, text::words::LINE_FEED);
     if n < input.len() {
         let passes = number_in(&input[..n]);
         let asked = lines::orders_in(&input[n + 1..]);

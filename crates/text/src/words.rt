@@ -2,6 +2,9 @@
 ghost use mathlib.Core.Path.{_≡_};
 ghost use Rattle.text.specs.Words.{firstOf, afterWord, wordBetween, sameB, keptOf, Kept};
 
+// What ends a line.
+pub const LINE_FEED: u8 = 10;
+
 // How many bytes stand before the first that equals b: all of them, where none does.
 pub fn first_of(s: &[u8], b: u8) -> usize
     ensures { λ r. ⌜ r ≡ firstOf b (now (s .entry)) ⌝ }

@@ -12,8 +12,7 @@ use print::text;
 use state::State;
 use text::commands::Command;
 use text::replies::Reply;
-
-const LINE_FEED: u8 = 10;
+use text::words::LINE_FEED;
 
 // How many lines of each store are lent.
 pub struct Lines {
