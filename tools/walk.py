@@ -16,7 +16,9 @@ the compiler (tools/mir.py) and what each call says of its answer from the contr
         calls that are lent slices or local arrays (as `&mut [S]` or `&[S]`), and copies of locals. Each callee's contract says
         `r ≡ ..` and, of each `&mut` slice, `now (x .exit) ≡ ..`, joined by `×`. The function's own contract has to follow from
         those by unfolding the definitions named in `unfold` (separated by spaces); where it does not, `said` gives the proof of it.
-        `requires={"callee": "proof"}` proves what a callee asks.
+        `requires={"callee": "proof"}` proves what a callee asks. A local array may be lent in part, `&mut a[..m]`, where m is a local whose
+        value is `min k n`, n the array's length (a function cuts it); what is not lent is then `past m a`. With `apart=True` what is lent is
+        given up after each call and the steps up to the next are a lemma of their own: for functions that lend more than once.
 
     forks("device::answer", said=["(by-cycle s log-now yes-1)", "(by-rest s log-now no-1)"])
         the same for a function whose steps go on with `if flag { ..; return x; }`, once or more often, each arm a straight line as above.

@@ -12,14 +12,14 @@ use state::State;
 use units::BaseUnits;
 use units::Litres;
 
-pub const SUPPLIERS_CODE: u32 = 1234;
+const SUPPLIERS_CODE: u32 = 1234;
 
-pub const CUSTOMERS_CODE: u32 = 98_765;
+const CUSTOMERS_CODE: u32 = 98_765;
 
 // In March 2003, the month of number 38.
 pub const TIME: u64 = 100_000_000;
 
-pub const MONTH: u64 = 38;
+const MONTH: u64 = 38;
 
 pub fn counters(vm: u64, vmd: u64, vb: u64, vbd: u64) -> Counters {
     Counters {
@@ -95,7 +95,7 @@ pub fn with_cell(x: Session, place: usize, c: Cell) -> Session {
     }
 }
 
-pub fn open_session() -> Session {
+fn open_session() -> Session {
     let none = state::no_session();
     let cells = none.cells;
     Session { live: true, cells }

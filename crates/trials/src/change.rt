@@ -63,7 +63,7 @@ pub fn setting(s: State, place: usize, v: Value) -> State {
     state::with_core(s, core)
 }
 
-pub fn keypad(s: State, x: Session) -> State {
+fn keypad(s: State, x: Session) -> State {
     let core = s.core;
     let port = s.port;
     State {
@@ -73,7 +73,7 @@ pub fn keypad(s: State, x: Session) -> State {
     }
 }
 
-pub fn port(s: State, x: Session) -> State {
+fn port(s: State, x: Session) -> State {
     let core = s.core;
     let keypad = s.keypad;
     State {

@@ -10,14 +10,10 @@ use state::Locks;
 use state::Session;
 use state::State;
 
-pub fn flags(a: bool, b: bool) -> bool {
-    if a { b } else { !b }
-}
-
 fn floats(x: f64, y: f64) -> bool {
     let first = x == x;
     let second = y == y;
-    let kinds = flags(first, second);
+    let kinds = first == second;
     let pattern = bits(x) == bits(y);
     both(kinds, pattern)
 }
@@ -62,10 +58,10 @@ fn settings_all(
 fn cells(x: Cell, y: Cell) -> bool {
     let v = x.value;
     let w = y.value;
-    let staged = flags(x.staged, y.staged);
+    let staged = x.staged == y.staged;
     let value = values(v, w);
-    let read = flags(x.read, y.read);
-    let overtaken = flags(x.overtaken, y.overtaken);
+    let read = x.read == y.read;
+    let overtaken = x.overtaken == y.overtaken;
     both(both(staged, value), both(read, overtaken))
 }
 
@@ -83,10 +79,10 @@ fn cells_all(a: [Cell; settings::COUNT], b: [Cell; settings::COUNT]) -> bool {
 fn sessions(a: Session, b: Session) -> bool {
     let x = a.cells;
     let y = b.cells;
-    both(flags(a.live, b.live), cells_all(x, y))
+    both(a.live == b.live, cells_all(x, y))
 }
 
-pub fn counters(a: Counters, b: Counters) -> bool {
+fn counters(a: Counters, b: Counters) -> bool {
     let vm = a.vm.0 == b.vm.0;
     let vmd = a.vmd.0 == b.vmd.0;
     let vb = a.vb.0 == b.vb.0;
@@ -94,15 +90,12 @@ pub fn counters(a: Counters, b: Counters) -> bool {
     both(both(vm, vmd), both(vb, vbd))
 }
 
-pub fn alarms(a: Alarms, b: Alarms) -> bool {
-    both(both(flags(a.p, b.p), flags(a.t, b.t)), flags(a.k, b.k))
+fn alarms(a: Alarms, b: Alarms) -> bool {
+    both(both(a.p == b.p, a.t == b.t), a.k == b.k)
 }
 
 fn locks(a: Locks, b: Locks) -> bool {
-    let open = both(
-        both(flags(a.cal, b.cal), flags(a.sup, b.sup)),
-        flags(a.cust, b.cust),
-    );
+    let open = both(both(a.cal == b.cal, a.sup == b.sup), a.cust == b.cust);
     let supcode = a.supcode == b.supcode;
     let custcode = a.custcode == b.custcode;
     both(open, both(supcode, custcode))

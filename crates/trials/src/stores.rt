@@ -11,7 +11,7 @@ use settings::Value;
 use units::BaseUnits;
 use units::Litres;
 
-pub fn log_line(place: u64) -> LogLine {
+fn log_line(place: u64) -> LogLine {
     LogLine {
         number: 7,
         time: place,
@@ -19,7 +19,7 @@ pub fn log_line(place: u64) -> LogLine {
     }
 }
 
-pub fn archive_line(place: u64) -> ArchiveLine {
+fn archive_line(place: u64) -> ArchiveLine {
     ArchiveLine {
         month: place,
         vm: Litres(1),
@@ -29,7 +29,7 @@ pub fn archive_line(place: u64) -> ArchiveLine {
     }
 }
 
-pub fn audit_line(place: u64) -> AuditLine {
+fn audit_line(place: u64) -> AuditLine {
     AuditLine {
         number: 7,
         time: place,
@@ -40,14 +40,14 @@ pub fn audit_line(place: u64) -> AuditLine {
     }
 }
 
-pub fn log_same(a: LogLine, b: LogLine) -> bool {
+fn log_same(a: LogLine, b: LogLine) -> bool {
     let number = a.number == b.number;
     let time = a.time == b.time;
     let code = a.code == b.code;
     both(number, both(time, code))
 }
 
-pub fn archive_same(a: ArchiveLine, b: ArchiveLine) -> bool {
+fn archive_same(a: ArchiveLine, b: ArchiveLine) -> bool {
     let month = a.month == b.month;
     let vm = a.vm.0 == b.vm.0;
     let vmd = a.vmd.0 == b.vmd.0;
@@ -56,7 +56,7 @@ pub fn archive_same(a: ArchiveLine, b: ArchiveLine) -> bool {
     both(month, both(both(vm, vmd), both(vb, vbd)))
 }
 
-pub fn audit_same(a: AuditLine, b: AuditLine) -> bool {
+fn audit_same(a: AuditLine, b: AuditLine) -> bool {
     let v = a.old;
     let w = b.old;
     let x = a.new;
