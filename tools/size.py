@@ -18,7 +18,7 @@ Written by `tools/size.py`; after a change of the sources, run it again. The cra
 
 A line counts if it is neither empty nor a comment alone. Code is `src`, definitions are `specs`, proof is `proofs`; of the proof, "walks" are the files that
 tools/walk.py writes (functions over lent stores). An edit is a deliberate mistake under `must-fail` that the prover must refuse. Seconds are those of the crate's
-proof in one run of the gate from nothing, as many crates at a time as there are processors. Memory is the peak of the prover's process. "-" is not measured. The code
+proof in one run of the gate from nothing, up to six crates at a time. Memory is the peak of the prover's process. "-" is not measured. The code
 of `calendar` has the table of 1,201 day numbers, one a line.
 
 """

@@ -1,9 +1,9 @@
 // The numbers of the fault card: when each is given, and what a fitter does about it.
-use crate::print::next_cell;
-use crate::print::number;
-use crate::print::row_begins;
-use crate::print::row_ends;
-use crate::print::text;
+use crate::page::next_cell;
+use crate::page::number;
+use crate::page::row_begins;
+use crate::page::row_ends;
+use print::text;
 use state::faults::BAD_VALUE;
 use state::faults::DONE;
 use state::faults::LOCK_MISSING;

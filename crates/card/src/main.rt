@@ -1,7 +1,7 @@
 // Prints docs/FAULT-CARD.md: the numbers that the device answers, and its settings. Limits, sizes, ranges, factory values and locks are the
 // device's own, so that a change of the device changes what is printed, and the gate then refuses the committed page.
 mod faults;
-mod print;
+mod page;
 mod table;
 
 use print::text;

@@ -1,11 +1,11 @@
 // The settings, row by row as the device has them. Only names and units are words of this page.
-use crate::print::next_cell;
-use crate::print::number;
-use crate::print::pattern;
-use crate::print::row_begins;
-use crate::print::row_ends;
-use crate::print::text;
-use crate::print::whole;
+use crate::page::next_cell;
+use crate::page::number;
+use crate::page::row_begins;
+use crate::page::row_ends;
+use crate::page::whole;
+use print::pattern;
+use print::text;
 use settings::Row;
 use settings::Value;
 

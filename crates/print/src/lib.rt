@@ -1,5 +1,5 @@
-// What the programs of trials print to standard output: words, numbers, and floats by their bits. Each part but the first of a line stands after a
-// blank.
+// What the programs of trials and the card print to standard output: words, numbers, and floats by their bits. `number`, `signed`, `flag` and
+// `float` begin with a blank.
 use settings::Value;
 
 pub fn text(s: &[u8]) {
@@ -25,15 +25,21 @@ pub fn number(n: u64) {
     io::print_decimal(1, n);
 }
 
-// The complement of a negative number is one less than its size, and fits even at the least.
+// A number without its sign. The complement of a negative number is one less than its size, and fits even at the least.
+pub fn magnitude(n: i64) -> u64 {
+    if n < 0 {
+        let less_one = settings::natural_of(Value::Whole(!n));
+        std::num::wrapping_add_u64(less_one, 1)
+    } else {
+        settings::natural_of(Value::Whole(n))
+    }
+}
+
 pub fn whole(n: i64) {
     if n < 0 {
         text(b"-");
-        let less_one = settings::natural_of(Value::Whole(!n));
-        io::print_decimal(1, std::num::wrapping_add_u64(less_one, 1));
-    } else {
-        io::print_decimal(1, settings::natural_of(Value::Whole(n)));
     }
+    io::print_decimal(1, magnitude(n));
 }
 
 pub fn signed(n: i64) {

@@ -1,9 +1,6 @@
-// What the page is made of: words, numbers, and the cells of a row.
-use settings::Value;
-
-pub fn text(s: &[u8]) {
-    io::write_all(1, s);
-}
+// What the page is made of beside words: the cells of a row, and numbers as on a printed card.
+use print::magnitude;
+use print::text;
 
 pub fn row_begins() {
     text(b"| ");
@@ -36,7 +33,7 @@ fn group(rest: u64) {
     }
 }
 
-// With a comma between thousands, as on a printed card.
+// With a comma between thousands.
 pub fn number(n: u64) {
     if n == 0 {
         text(b"0");
@@ -51,26 +48,9 @@ pub fn number(n: u64) {
     }
 }
 
-// The complement of a negative number is one less than its size, and fits even at the least.
 pub fn whole(n: i64) {
     if n < 0 {
         text(b"-");
-        let less_one = settings::natural_of(Value::Whole(!n));
-        number(std::num::wrapping_add_u64(less_one, 1));
-    } else {
-        number(settings::natural_of(Value::Whole(n)));
     }
-}
-
-// 0 for a NaN, which no row has.
-fn bits(x: f64) -> u64 {
-    if x == x {
-        return f64::to_bits(x);
-    }
-    0
-}
-
-// A float by the 16 digits of its bits, as it is written at the device, so that nothing is rounded in print.
-pub fn pattern(x: f64) {
-    io::print_hex(1, bits(x), 16);
+    number(magnitude(n));
 }
