@@ -254,7 +254,7 @@ fn staged_ok(staged: bool, k: usize, v: settings::Value) -> bool
     }
 }
 
-fn cell_ok(live: bool, k: usize, c: Cell) -> bool
+fn touched_ok(live: bool, k: usize, c: Cell) -> bool
     ensures { λ r. ⌜ r ≡ cellB live k c ⌝ }
 {
     let v = c.value;
@@ -264,6 +264,18 @@ fn cell_ok(live: bool, k: usize, c: Cell) -> bool
     let d = implies(touched, live);
     let e = ground::both(a, b);
     ground::both(e, d)
+}
+
+// At every command 42 cells are tested, and in most nothing is staged or read: then only the last mark is left to look at.
+fn cell_ok(live: bool, k: usize, c: Cell) -> bool
+    ensures { λ r. ⌜ r ≡ cellB live k c ⌝ }
+{
+    let touched = ground::either(c.staged, c.read);
+    if touched {
+        touched_ok(live, k, c)
+    } else {
+        !c.overtaken
+    }
 }
 
 fn cells_ok(live: bool, cells: [Cell; settings::COUNT]) -> bool
@@ -323,11 +335,7 @@ pub fn whole(s: State) -> bool
 pub fn with_core(s: State, core: Core) -> State
     ensures { λ r. ⌜ r ≡ withCore s core ⌝ }
 {
-    let keypad = s.keypad;
-    let port = s.port;
-    State {
-        core: core,
-        keypad: keypad,
-        port: port,
-    }
+    let mut after = s;
+    after.core = core;
+    after
 }
