@@ -290,11 +290,10 @@ class Array(Slice):
         w.open += 2
         w.out(said)
 
-    def back(self, w, name, new):
-        """The lifetime is over: the local is a cell again, at the last list."""
+    def comes_back(self, w, name, zs):
+        """The lifetime is over: the row of what was lent, at its last list."""
         l, α, γ = self.here(name).split()
-        R, E, K, n = self.type.row, self.type.known, self.array.known, self.array.count
-        zs = new[0] if new else self.now
+        R, E, n = self.type.row, self.type.known, self.array.count
         row = "later (‵ (row %s fullShare %s %s 0))" % (R, zs, l)
         if self.mut:
             said = w.held.move("dead-" + self.x, "kept-" + self.x, "last-" + self.x)
@@ -304,6 +303,14 @@ class Array(Slice):
             said = w.held.move("dead-" + self.x, "kept-" + self.x)
             said += "use2 W (%s) (shared-comes-back 𝓤 H A W %s %s (%s ∷ []) %s %s) $ await ! tt $ " % (row, E, n, α, arg(zs), l)
             w.held.first(2, "row")
+        return said
+
+    def back(self, w, name, new):
+        """The lifetime is over: the local is a cell again, at the last list."""
+        l, α, γ = self.here(name).split()
+        E, K, n = self.type.known, self.array.known, self.array.count
+        zs = new[0] if new else self.now
+        said = self.comes_back(w, name, zs)
         same = "(len-%s-%s ∙ %s)" % (self.x, name, self.length()) if self.mut else self.length()
         ok = "ok-%s-%s" % (self.x, name)
         said += "use1 W (given (Fine %s %s) (‵ (fat fullShare %s %s 0 (%s .val %s)))) (array-back 𝓤 H A W %s %s %s %s %s) $ learn ! (λ %s." % (K, arg(zs), w.ty(self.local), l, K, arg(zs), E, n, arg(zs), l, same, ok)
@@ -355,15 +362,7 @@ class Front(Array):
         l, α, γ = self.here(name).split()
         R, E, K, n = self.type.row, self.type.known, self.array.known, self.array.count
         front = new[0] if new else self.now
-        row = "later (‵ (row %s fullShare %s %s 0))" % (R, front, l)
-        if self.mut:
-            said = w.held.move("dead-" + self.x, "kept-" + self.x, "last-" + self.x)
-            said += "use3 W (%s) (array-comes-back 𝓤 H A W %s %s (%s ∷ []) %s (length %s) %s %s) $ await ! tt $ " % (row, E, n, α, γ, self.now, front, l)
-            w.held.first(3, "row")
-        else:
-            said = w.held.move("dead-" + self.x, "kept-" + self.x)
-            said += "use2 W (%s) (shared-comes-back 𝓤 H A W %s %s (%s ∷ []) %s %s) $ await ! tt $ " % (row, E, n, α, front, l)
-            w.held.first(2, "row")
+        said = self.comes_back(w, name, front)
         same = "len-%s-%s" % (self.x, name) if self.mut else "refl"
         zs = "(%s ++ past %s %s)" % (front, self.count, self.whole)
         said += w.held.move("row", "rest-" + self.x)
