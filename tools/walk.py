@@ -1,11 +1,14 @@
 #!/usr/bin/env python3
 """Writes the proofs of functions over lent books ("walks").
 
-    tools/walk.py [FILE ..]        FILE is one of tools/walks/*.py; with none, all of them
+    tools/walk.py [FILE ..]            FILE is one of tools/walks/*.py; with none, all of them
+    tools/walk.py --check [FILE ..]    writes nothing, and says which of the files that are there are not what it would write; with no FILE
+                                       also which say that they are of this tool and are in no list. The status is 1 where there is any
 
 A function that takes a slice of structs is not covered by the borrow checker: its proof goes through its steps one by one, and says
 at each which piece of memory, borrow or token is used, by its place in a list. This tool counts those places. It reads the steps from
-the compiler (tools/mir.py) and what each call says of its answer from the contracts in crates/*/src, so an input file is short. In it:
+the compiler (tools/mir.py) and what each call says of its answer from the contracts in crates/*/src, so an input file is short. What it
+writes is in the layout of `rt fmt`. In an input file:
 
     types("device", structs=["State", "Plan"], enums=["readings::Pressure"])
         writes proofs/Types.antt of a crate above `books` (list it in proofs/Lib.antt as `pub mod Types`): one `Known` for each type,
@@ -35,17 +38,73 @@ the compiler (tools/mir.py) and what each call says of its answer from the contr
         (`opening`) and at the end of a turn (`turning`). `said` proves the contract from `last : k ≡ n`.
 
 A type `Name` is known by the `a-Name` that some crate's proofs/Types.antt has; `a-u64`, `a-bool` and the like stand in Types of the
-crate `books`. A slice parameter x is spoken of as x-now (its list), a plain one by its name. Run `rt fmt` after the tool.
+crate `books`. In one walk no two types, and no two callees, may have the same bare name. A slice parameter x is spoken of as x-now (its
+list), a plain one by its name. The parts of the tool stand in tools/walking; tools/tests/walk.py tests it.
 """
-import glob, os, sys
+import glob, os, sys, traceback
 
-from forms import fetch, forks, ring, straight, types
-from loops import put, rounds
+from sources import Fault
+from walking import files
+from walking.element import fetch, put
+from walking.forks import forks
+from walking.plain import TYPES, types
+from walking.ring import ring
+from walking.rounds import rounds
+from walking.straight import straight
 
 HERE = os.path.dirname(os.path.abspath(__file__))
+FORMS = {form.__name__: form for form in (types, straight, forks, ring, fetch, put, rounds)}
+
+
+def place_of(error):
+    """Where in the tool something went wrong."""
+    here = [frame for frame in traceback.extract_tb(error.__traceback__) if frame.filename.startswith(HERE)][-1]
+    return "%r in tools/%s, line %d" % (error, os.path.relpath(here.filename, HERE), here.lineno)
+
+
+def guarded(form, faults):
+    """The form; what goes wrong in it is noted, and the next walk goes on."""
+    def run(name, *more, **how):
+        try:
+            files.claim(TYPES % name if form is types else files.walk_path(name))
+            form(name, *more, **how)
+        except Fault as fault:
+            faults.setdefault(str(fault), []).append(name)
+        except Exception as error:
+            faults.setdefault("its steps or contracts are not of the form `%s` (%s)" % (form.__name__, place_of(error)), []).append(name)
+    return run
+
+
+def work_out(paths):
+    """Works out every walk that these files list. Says what could not be."""
+    faults = {}
+    for path in paths:
+        try:
+            with open(path, encoding="utf-8") as listed:
+                exec(compile(listed.read(), path, "exec"), {name: guarded(form, faults) for name, form in FORMS.items()})
+        except Exception as error:
+            faults.setdefault("%s: %s" % (type(error).__name__, error), []).append(os.path.relpath(path))
+    return ["%s: %s" % (", ".join(names), fault) for fault, names in faults.items()]
+
+
+def main(words):
+    sys.stdout.reconfigure(encoding="utf-8")
+    checks, named = "--check" in words, [word for word in words if word != "--check"]
+    faults = work_out(named or sorted(glob.glob(HERE + "/walks/*.py")))
+    try:
+        faults += files.compare() if checks else files.write()
+    except Fault as fault:
+        faults.append(str(fault))
+    if checks and not named:
+        faults += files.strays()
+    for fault in faults:
+        print("walk.py: " + fault)
+    if checks and not faults:
+        print("walk.py: %d files are what the tool writes" % len(files.texts))
+    return 1 if faults else 0
+
 
 if __name__ == "__main__":
     if sys.argv[1:2] in (["-h"], ["--help"]):
         sys.exit(__doc__)
-    for path in sys.argv[1:] or sorted(glob.glob(HERE + "/walks/*.py")):
-        exec(compile(open(path).read(), path, "exec"), {"types": types, "straight": straight, "forks": forks, "ring": ring, "fetch": fetch, "put": put, "rounds": rounds})
+    sys.exit(main(sys.argv[1:]))

@@ -1,4 +1,5 @@
 # One measuring cycle, over the archive and the logbook.
-types("cycle", structs=["Brought", "Writes", "state::State", "state::Answer"])
+types("cycle", structs=["commands::Brought", "commands::Answer", "Writes", "Plan", "state::State"])
 straight("cycle::write_both")
-straight("cycle::cycle", said="(answer-is s brought archive-now log-now, (archive-is s brought archive-now log-now, log-is s brought archive-now log-now))")
+straight("cycle::cycle_by", unfold="cyclePlanned")
+straight("cycle::cycle", said="(paper s brought archive-now log-now)")

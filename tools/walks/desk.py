@@ -1,6 +1,6 @@
-# The commands of a block, put to a desk one after another.
-types("desk", structs=["Desk", "Order", "Said", "Served"])
-fetch("desk::fetch_order")
-put("desk::put_said")
-rounds("desk::serve", carried={6: ("s", "after d orders k .state"), 7: ("archive", "after d orders k .archive"), 8: ("log", "after d orders k .log"), 9: ("audit", "after d orders k .audit"), 10: ("said", "saidUpTo d orders k")},
-       opening="after saidUpTo", turning="after deskAfter shownOn saidUpTo replyOn saidOf", said="(served-after d orders count k last)")
+# The lines of a block, put to a desk one after another.
+types("desk", structs=["Desk", "Input", "Output", "Served"], enums=["commands::Entry"])
+fetch("desk::fetch_input")
+put("desk::put_output")
+rounds("desk::serve", carried={6: ("s", "after d inputs k .state"), 7: ("sound", "soundAfter d inputs k"), 8: ("archive", "after d inputs k .archive"), 9: ("log", "after d inputs k .log"), 10: ("audit", "after d inputs k .audit"), 11: ("outputs", "outputsUpTo d inputs k")},
+       opening="after soundAfter outputsUpTo", turning="after deskAfter seenOn turnOn soundAfter outputsUpTo outputOn", said="(served-after d inputs count k last)")

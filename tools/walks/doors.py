@@ -1,4 +1,6 @@
 # The commit, and a line of the audit trail.
-types("doors", structs=["state::State", "state::Answer", "Plan", "AuditAnswer"])
-straight("doors::commit", said="(kept-answer s door audit-now, kept-trail s door audit-now)")
-straight("doors::audit_line", unfold="auditLineOf")
+types("doors", structs=["state::State", "commands::Answer", "commands::Reply", "asked::Sought", "Plan"])
+straight("doors::commit_by", unfold="commitPlanned")
+straight("doors::commit", said="(kept-so s door audit-now)")
+straight("doors::audit_line_by", unfold="auditLineBy auditShown auditSought soughtIn")
+straight("doors::audit_line")

@@ -1,2 +1,3 @@
--- Laws that the proofs of this program cite.
+-- Laws that the proofs of this crate cite, and what follows for the input as a whole.
+pub mod Lost
 pub mod Parts

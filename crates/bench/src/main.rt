@@ -1,16 +1,27 @@
 // The bench: commands from standard input, one a line, and one line of output for each, in order. What has been answered is written before
-// more is read. An unfinished line is kept at the front of the input, cut to as much as decides its answer, so memory stays as it is.
-ghost use Prim.Native.Nat.{_+_, _≤_};
+// more is read. An unfinished line is kept at the front of the input, cut to as much as decides its answer, so memory stays as it is. A read or a
+// write that fails is said on standard error, and ends the bench.
+ghost use Prim.Native.Nat.{_≤_, _<_};
 ghost use lib.ListN.{length};
+ghost use Rattle.text.specs.Words.{deciding};
+ghost use Rattle.bench.specs.Bench.{ReadBehind, Refilled, Within, Stepped};
 use desk::Desk;
+use libc::STDERR_FILENO;
 use libc::STDIN_FILENO;
 use libc::STDOUT_FILENO;
 
-// What is left of the input: the bytes from one place up to another; and whether there may be more.
+// What is left of the input: the bytes from one place up to another; whether a read may give more; and whether the bench goes on.
 struct Window {
     from: usize,
     have: usize,
+    more: bool,
     on: bool,
+}
+
+// How many bytes a read gave: none at the end of the input, or where it failed.
+struct More {
+    n: usize,
+    failed: bool,
 }
 
 struct Reached {
@@ -18,83 +29,103 @@ struct Reached {
     left: Window,
 }
 
-// One read behind the bytes that are held, and how many came: 0 at the end of the input.
-fn read_more(input: &mut [u8], held: usize) -> usize
+// One read behind the bytes that are held.
+fn read_more(input: &mut [u8], held: usize) -> More
     requires { ⌜ held ≤ length (now input) ⌝ }
-    ensures { λ r. ⌜ held + r ≤ length (now (input .exit)) ⌝ }
+    ensures { λ r. ⌜ ReadBehind (now (input .entry)) (now (input .exit)) held r ⌝ }
 {
     let part = &mut input[held..];
     let got = libc::read(STDIN_FILENO, part);
-    io::count(got, part)
+    let failed = got < 0;
+    let n = io::count(got, part);
+    More {
+        n: n,
+        failed: failed,
+    }
 }
 
-// Keeps the unfinished line and reads more. A last line without its line feed is given one.
+// Keeps the unfinished line and reads more. A last line without its line feed is given one; where the read failed it is no line, and stays
+// unanswered.
 fn refill(input: &mut [u8], from: usize, have: usize) -> Window
-    ensures { λ r. ⌜ (r .from ≤ r .have) × (r .have ≤ length (now (input .exit))) ⌝ }
+    requires { ⌜ deciding < length (now input) ⌝ }
+    ensures { λ r. ⌜ Refilled (now (input .entry)) (now (input .exit)) from have r ⌝ }
 {
     let held = text::words::keep(input, from, have);
-    let n = read_more(input, held);
-    if 0 < n {
+    let more = read_more(input, held);
+    if more.failed {
+        io::write_all(STDERR_FILENO, b"bench: the input could not be read\n");
         return Window {
             from: 0,
-            have: held + n,
+            have: held,
+            more: false,
+            on: false,
+        };
+    }
+    if 0 < more.n {
+        return Window {
+            from: 0,
+            have: held + more.n,
+            more: true,
             on: true,
         };
     }
     if 0 < held {
-        if held < input.len() {
-            input[held] = text::words::LINE_FEED;
-            return Window {
-                from: 0,
-                have: held + 1,
-                on: true,
-            };
-        }
+        input[held] = text::words::LINE_FEED;
+        return Window {
+            from: 0,
+            have: held + 1,
+            more: false,
+            on: true,
+        };
     }
     Window {
         from: 0,
         have: 0,
+        more: false,
         on: false,
     }
 }
 
-// The lines that are there are answered, and the answers written; where there is none, more is read.
-fn step(d: Desk, input: &mut [u8], out: &mut [u8], from: usize, have: usize) -> Reached
-    requires { ⌜ (from ≤ have) × (have ≤ length (now input)) ⌝ }
-    ensures { λ r. ⌜ (r .left .from ≤ r .left .have) × (r .left .have ≤ length (now (input .exit))) ⌝ }
+// The lines that are there are answered, and the answers written; where there is none, more is read, unless the input has ended.
+fn step(d: Desk, input: &mut [u8], out: &mut [u8], from: usize, have: usize, more: bool) -> Reached
+    requires { ⌜ (from ≤ have) × (have ≤ length (now input)) × (deciding < length (now input)) ⌝ }
+    ensures { λ r. ⌜ Stepped d (now (input .entry)) (now (input .exit)) (now (out .entry)) (now (out .exit)) from have more r ⌝ }
 {
-    let asked = lines::orders_in(&input[from..have]);
-    let orders = asked.orders;
-    let served = desk::serve(d, orders, asked.count);
-    let desk = served.desk;
-    let said = served.said;
-    let used = lines::put_replies(out, said, asked.count);
+    let answers = lines::answer(d, &input[from..have], out);
+    let after = answers.desk;
+    let used = answers.used;
     let sent = io::write_all(STDOUT_FILENO, &out[..used]);
     if sent {
-        if 0 < asked.at {
+        if 0 < answers.at {
             let left = Window {
-                from: from + asked.at,
+                from: from + answers.at,
                 have: have,
+                more: more,
                 on: true,
             };
             return Reached {
-                desk: desk,
+                desk: after,
                 left: left,
             };
         }
-        let left = refill(input, from, have);
-        return Reached {
-            desk: desk,
-            left: left,
-        };
+        if more {
+            let left = refill(input, from, have);
+            return Reached {
+                desk: after,
+                left: left,
+            };
+        }
+    } else {
+        io::write_all(STDERR_FILENO, b"bench: an answer could not be written\n");
     }
     let left = Window {
         from: from,
         have: have,
+        more: false,
         on: false,
     };
     Reached {
-        desk: desk,
+        desk: after,
         left: left,
     }
 }
@@ -107,6 +138,7 @@ fn main() {
     let mut desk = begun.desk;
     let mut from: usize = 0;
     let mut have: usize = 0;
+    let mut more = true;
     let mut on = true;
     // A proved loop has to end, and nothing says that the input does: no run uses up this number.
     let mut turns = u64::MAX;
@@ -115,12 +147,13 @@ fn main() {
             return;
         }
         turns -= 1;
-        let s = step(desk, &mut input, &mut out, from, have);
+        let s = step(desk, &mut input, &mut out, from, have, more);
         let next = s.desk;
         desk = next;
         let left = s.left;
         from = left.from;
         have = left.have;
+        more = left.more;
         on = left.on;
     }
 }

@@ -9,7 +9,8 @@ use lib.IntN.{ℤ, pos, negsuc, negℤ}
 use lib.Ieee.{Float, fin, binary64, ofBits}
 use lib.ListN.{replicate}
 use Rattle.order.specs.Order.{run}
-use Rattle.units.specs.Units.{litresOf}
+use Rattle.units.specs.declared.Amounts.the-variants.{Counted}
+use Rattle.units.specs.Units.{litresOf, baseOf}
 use Rattle.settings.specs.Settings.{factorySettings}
 use Rattle.settings.specs.declared.Value.the-variants.{Whole}
 use Rattle.factor.specs.Factor.{factorTaken}
@@ -31,8 +32,8 @@ use Rattle.state.specs.declared.Alarms.{Alarms}
 use Rattle.state.specs.declared.Core.{Core}
 use Rattle.state.specs.declared.State.{State}
 use Rattle.state.specs.State.{fresh, withCore}
-use Rattle.cycle.specs.Cycle.{coefficientsIn}
-use Rattle.runs.specs.Run.{Step, cycle, openLock, begin, commit, read, write, World, Reply, numberOf, corrector}
+use Rattle.cycle.specs.Cycle.{coefficientsIn, measuredBy}
+use Rattle.runs.specs.Run.{Step, Cycle, Turn, Open, Call, Commit, Begin, Read, Write, World, Reply, numberOf, corrector}
 
 -- ---- what a row can ask
 
@@ -110,8 +111,8 @@ holds (factorCase p tb pb t k answer) = eqb (factorTaken p tb pb t k) answer
 holds (nearestCase x answer) = sameMeasured (nearestOf x) answer
 holds (measuredCase c raw answer) = sameMeasured (nearestOf (equationOf c raw)) answer
 holds (runCase s steps numbers) = ranTo s steps numbers (λ w. true)
-holds (countersCase s steps numbers vm vmd vb vbd) = ranTo s steps numbers (λ w. sameCounters (w .state .core .counters) vm vmd vb vbd)
-holds (alarmsCase s steps numbers p t k) = ranTo s steps numbers (λ w. sameAlarms (w .state .core .alarms) p t k)
+holds (countersCase s steps numbers vm vmd vb vbd) = ranTo s steps numbers (λ w. sameCounters (w .state .core .measured .counters) vm vmd vb vbd)
+holds (alarmsCase s steps numbers p t k) = ranTo s steps numbers (λ w. sameAlarms (w .state .core .measured .alarms) p t k)
 holds (monthsCase s steps numbers months) = ranTo s steps numbers (λ w. sameNumbers (monthsHeld w) months)
 
 unfoldable pub allHold : List Row → Bool
@@ -124,13 +125,10 @@ allHold (r ∷ rs) = holds (r .asked) && allHold rs
 unfoldable pub factoryDevice : State
 factoryDevice = fresh 0 1111 2222
 
--- a core whose Vm shows so many litres
+-- a core that has counted so many litres on Vm, and nothing at base conditions
 unfoldable pub withVm : Core → ℕ → Core
 withVm c vm = record {
-  time = c .time;
-  month = c .month;
-  counters = record { vm = litresOf vm; vmd = c .counters .vmd; vb = c .counters .vb; vbd = c .counters .vbd };
-  alarms = c .alarms;
+  measured = measuredBy (c .measured) (c .measured .time) (c .measured .alarms) (Counted (litresOf vm) (baseOf 0));
   latches = c .latches;
   locks = c .locks;
   settings = c .settings;
@@ -141,7 +139,7 @@ withVm c vm = record {
 
 -- a cycle at a time, of n pulses, raw 7,680 and a pressure in pascals; K is not computed
 abbrev pub aCycle : ℕ → ℕ → ℕ → Step
-aCycle time n p = cycle (record { time = time; n = n; raw = Raw 7680; pressure = Pascals p; k = NotComputed })
+aCycle time n p = Cycle (record { time = time; n = n; raw = Raw 7680; pressure = Pascals p; k = NotComputed })
 
 -- ---- the table
 
@@ -170,10 +168,10 @@ table =
     ∷ row 9 (monthsCase factoryDevice (aCycle 3155760000 0 202650 ∷ []) (6 ∷ []) [])
     ∷ row 10 (countersCase factoryDevice (aCycle 60 600 202650 ∷ []) (0 ∷ []) 60000 0 11181300000 0)
     ∷ row 10 (countersCase factoryDevice (aCycle 60 601 202650 ∷ []) (7 ∷ []) 0 0 0 0)
-    ∷ row 11 (runCase factoryDevice (openLock 2 1111 ∷ begin 1 ∷ read 1 16 ∷ begin 2 ∷ write 2 16 (Whole (pos 9900)) ∷ commit 2 ∷ write 1 14 (Whole (pos 200000)) ∷ commit 1 ∷ [])
+    ∷ row 11 (runCase factoryDevice (Turn (Open 2 1111) ∷ Call 1 Begin ∷ Call 1 (Read 16) ∷ Call 2 Begin ∷ Call 2 (Write 16 (Whole (pos 9900))) ∷ Commit 2 ∷ Call 1 (Write 14 (Whole (pos 200000))) ∷ Commit 1 ∷ [])
     (0 ∷ 0 ∷ 0 ∷ 0 ∷ 0 ∷ 0 ∷ 0 ∷ 11 ∷ []))
-    ∷ row 11 (runCase factoryDevice (openLock 2 1111 ∷ begin 1 ∷ begin 2 ∷ write 2 16 (Whole (pos 9900)) ∷ commit 2 ∷ write 1 14 (Whole (pos 200000)) ∷ commit 1 ∷ [])
+    ∷ row 11 (runCase factoryDevice (Turn (Open 2 1111) ∷ Call 1 Begin ∷ Call 2 Begin ∷ Call 2 (Write 16 (Whole (pos 9900))) ∷ Commit 2 ∷ Call 1 (Write 14 (Whole (pos 200000))) ∷ Commit 1 ∷ [])
     (0 ∷ 0 ∷ 0 ∷ 0 ∷ 0 ∷ 0 ∷ 0 ∷ []))  -- without the read
-    ∷ row 12 (runCase factoryDevice (openLock 1 0 ∷ begin 1 ∷ write 1 8 (Whole (pos 80000)) ∷ commit 1 ∷ []) (0 ∷ 0 ∷ 0 ∷ 12 ∷ []))
-    ∷ row 12 (runCase factoryDevice (openLock 1 0 ∷ begin 1 ∷ write 1 8 (Whole (pos 80000)) ∷ write 1 7 (Whole (pos 80000)) ∷ commit 1 ∷ []) (0 ∷ 0 ∷ 0 ∷ 0 ∷ 0 ∷ []))
+    ∷ row 12 (runCase factoryDevice (Turn (Open 1 0) ∷ Call 1 Begin ∷ Call 1 (Write 8 (Whole (pos 80000))) ∷ Commit 1 ∷ []) (0 ∷ 0 ∷ 0 ∷ 12 ∷ []))
+    ∷ row 12 (runCase factoryDevice (Turn (Open 1 0) ∷ Call 1 Begin ∷ Call 1 (Write 8 (Whole (pos 80000))) ∷ Call 1 (Write 7 (Whole (pos 80000))) ∷ Commit 1 ∷ []) (0 ∷ 0 ∷ 0 ∷ 0 ∷ 0 ∷ []))
     ∷ []

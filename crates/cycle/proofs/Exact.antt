@@ -25,8 +25,9 @@ use Rattle.books.specs.declared.LogLine.{LogLine}
 use Rattle.state.specs.declared.State.{State}
 use Rattle.state.specs.State.{wholeB, withCore}
 use Rattle.state.proofs.Sound.{whole-sound}
-use Rattle.cycle.specs.declared.Brought.{Brought}
-use Rattle.cycle.specs.Cycle.{naturalAt, wholeAt, coefficientsIn, temperatureFor, pressureFor, kFor, kelvinFor, numeratorFor, denominatorFor, alarmsFor, factorFor, amountsFor, cycleRefusal, cycledCore, Outcome, cycled, cycleOf}
+use Rattle.commands.specs.declared.Brought.{Brought}
+use Rattle.commands.specs.Answers.{plain, Outcome, withBoth}
+use Rattle.cycle.specs.Cycle.{naturalAt, wholeAt, coefficientsIn, temperatureFor, pressureFor, kFor, kelvinFor, numeratorFor, denominatorFor, alarmsFor, factorFor, amountsFor, cycleRefusal, cycledCore, cycled, cycleOf}
 
 -- ---- what the settings let a cycle take
 
@@ -117,21 +118,21 @@ module _ (a b : List Setting) (same : (k : ℕ) → k < 16 → valueAt a k ≡ v
 abbrev pub withSettings : State → List Setting → State
 withSettings s b =
     let c = s .core in
-    withCore s (record { time = c .time; month = c .month; counters = c .counters; alarms = c .alarms; latches = c .latches; locks = c .locks; settings = b; archive = c .archive; log = c .log; audit = c .audit })
+    withCore s (record { measured = c .measured; latches = c .latches; locks = c .locks; settings = b; archive = c .archive; log = c .log; audit = c .audit })
 
 abbrev pub outcomeWith : Outcome → List Setting → Outcome
-outcomeWith o b = record { answer = record { number = o .answer .number; state = withSettings (o .answer .state) b }; archive = o .archive; log = o .log }
+outcomeWith o b = withBoth (record { reply = o .answer .reply; state = withSettings (o .answer .state) b }) (o .archive) (o .log)
 
 -- what a refused cycle gives
 abbrev refused : ℕ → State → List ArchiveLine → List LogLine → Outcome
-refused number s archive log = record { answer = record { number = number; state = s }; archive = archive; log = log }
+refused number s archive log = withBoth (record { reply = plain number; state = s }) archive log
 
 module _ (s : State) (b : List Setting) (same : (k : ℕ) → k < 16 → valueAt (s .core .settings) k ≡ valueAt b k) (r : Brought) (archive : List ArchiveLine) (log : List LogLine) where
   done-same : cycled (withSettings s b) r archive log ≡ outcomeWith (cycled s r archive log) b
   unfolding cycled cycledCore withCore
   done-same = rw (alarms-same (s .core .settings) b same r, amounts-same (s .core .settings) b same r)
 
-  refusal-same : wholeB (withSettings s b) ≡ wholeB s → cycleRefusal (withSettings s b) (length archive) (length log) r ≡ cycleRefusal s (length archive) (length log) r
+  refusal-same : wholeB (withSettings s b) ≡ wholeB s → cycleRefusal (wholeB (withSettings s b)) (withSettings s b) (length archive) (length log) r ≡ cycleRefusal (wholeB s) s (length archive) (length log) r
   unfolding cycleRefusal withCore
   refusal-same w = rw (w, amounts-same (s .core .settings) b same r)
 
@@ -144,4 +145,4 @@ module _ (s : State) (b : List Setting) (same : (k : ℕ) → k < 16 → valueAt
   -- with other settings from 17 on a cycle answers and writes the same, counts the same, and leaves those settings in force
   pub not-in-formulas : wholeB (withSettings s b) ≡ wholeB s → cycleOf (withSettings s b) r archive log ≡ outcomeWith (cycleOf s r archive log) b
   unfolding cycleOf
-  not-in-formulas w = rw (refusal-same w) (either-same (cycleRefusal s (length archive) (length log) r) (eqb (cycleRefusal s (length archive) (length log) r) 0))
+  not-in-formulas w = rw (refusal-same w) (either-same (cycleRefusal (wholeB s) s (length archive) (length log) r) (eqb (cycleRefusal (wholeB s) s (length archive) (length log) r) 0))

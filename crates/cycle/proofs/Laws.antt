@@ -38,7 +38,7 @@ use Rattle.state.specs.declared.State.{State}
 use Rattle.state.specs.State.{countersB, latchedB, wholeB}
 use Rattle.state.proofs.Card.{not-false}
 use Rattle.state.proofs.Sound.{whole-sound}
-use Rattle.cycle.specs.declared.Brought.{Brought}
+use Rattle.commands.specs.declared.Brought.{Brought}
 use Rattle.cycle.specs.Cycle.{naturalAt, pressureFor, temperatureFor, kFor, alarmsFor, factorFor, amountsFor, isTooLarge, anyAlarm, counted, latchesAfter, changes, monthLines, cycleRefusal, cycledCore, cycled}
 
 -- ---- alarms and latches
@@ -53,7 +53,7 @@ unfolding latchedB latchesAfter
 latches-hold latch found = rw (latch-flag (found .p) (latch .p), latch-flag (found .t) (latch .t), latch-flag (found .k) (latch .k))
 
 -- each present alarm is latched
-pub present-latched : (c : Core) (r : Brought) → latchedB (cycledCore c r .alarms) (cycledCore c r .latches) ≡ true
+pub present-latched : (c : Core) (r : Brought) → latchedB (cycledCore c r .measured .alarms) (cycledCore c r .latches) ≡ true
 unfolding cycledCore
 present-latched c r = latches-hold (c .latches) (alarmsFor (c .settings) r)
 
@@ -73,14 +73,14 @@ disturbed-stands c (Counted v b) = (refl, refl)
 module _ (c : Core) (r : Brought) where
   -- in a cycle with an alarm the main counters stand still, and in one without the disturbed ones do
   pub main-still : anyAlarm (alarmsFor (c .settings) r) ≡ true →
-      (cycledCore c r .counters .vm ≡ c .counters .vm) × (cycledCore c r .counters .vb ≡ c .counters .vb)
+      (cycledCore c r .measured .counters .vm ≡ c .measured .counters .vm) × (cycledCore c r .measured .counters .vb ≡ c .measured .counters .vb)
   unfolding cycledCore
-  main-still h = rw h (main-stands (c .counters) (amountsFor (c .settings) r))
+  main-still h = rw h (main-stands (c .measured .counters) (amountsFor (c .settings) r))
 
   pub disturbed-still : anyAlarm (alarmsFor (c .settings) r) ≡ false →
-      (cycledCore c r .counters .vmd ≡ c .counters .vmd) × (cycledCore c r .counters .vbd ≡ c .counters .vbd)
+      (cycledCore c r .measured .counters .vmd ≡ c .measured .counters .vmd) × (cycledCore c r .measured .counters .vbd ≡ c .measured .counters .vbd)
   unfolding cycledCore
-  disturbed-still h = rw h (disturbed-stands (c .counters) (amountsFor (c .settings) r))
+  disturbed-still h = rw h (disturbed-stands (c .measured .counters) (amountsFor (c .settings) r))
 
 record InRange (c : Counters) : Type 0 where
   vm : ltb (c .vm .0) litresRollover ≡ true
@@ -131,22 +131,22 @@ module _ (s : State) (r : Brought) (w : wholeB s ≡ true) (few : r .n ≤ mostP
   never-too-large = rw amounts-counted
 
   -- so a cycle counts them, to the main counters or to the disturbed ones
-  pub counts-main : anyAlarm (alarmsFor (s .core .settings) r) ≡ false → cycledCore (s .core) r .counters
+  pub counts-main : anyAlarm (alarmsFor (s .core .settings) r) ≡ false → cycledCore (s .core) r .measured .counters
       ≡ record {
-        vm = plusLitres (s .core .counters .vm) (litresOf (r .n * pulseLitres (naturalAt (s .core .settings) 1)));
-        vmd = s .core .counters .vmd;
-        vb = plusBase (s .core .counters .vb) (baseOf (r .n * pulseLitres (naturalAt (s .core .settings) 1) * factorFor (s .core .settings) r));
-        vbd = s .core .counters .vbd;
+        vm = plusLitres (s .core .measured .counters .vm) (litresOf (r .n * pulseLitres (naturalAt (s .core .settings) 1)));
+        vmd = s .core .measured .counters .vmd;
+        vb = plusBase (s .core .measured .counters .vb) (baseOf (r .n * pulseLitres (naturalAt (s .core .settings) 1) * factorFor (s .core .settings) r));
+        vbd = s .core .measured .counters .vbd;
       }
   unfolding cycledCore counted
   counts-main h = rw (h, amounts-counted)
 
-  pub counts-disturbed : anyAlarm (alarmsFor (s .core .settings) r) ≡ true → cycledCore (s .core) r .counters
+  pub counts-disturbed : anyAlarm (alarmsFor (s .core .settings) r) ≡ true → cycledCore (s .core) r .measured .counters
       ≡ record {
-        vm = s .core .counters .vm;
-        vmd = plusLitres (s .core .counters .vmd) (litresOf (r .n * pulseLitres (naturalAt (s .core .settings) 1)));
-        vb = s .core .counters .vb;
-        vbd = plusBase (s .core .counters .vbd) (baseOf (r .n * pulseLitres (naturalAt (s .core .settings) 1) * factorFor (s .core .settings) r));
+        vm = s .core .measured .counters .vm;
+        vmd = plusLitres (s .core .measured .counters .vmd) (litresOf (r .n * pulseLitres (naturalAt (s .core .settings) 1)));
+        vb = s .core .measured .counters .vb;
+        vbd = plusBase (s .core .measured .counters .vbd) (baseOf (r .n * pulseLitres (naturalAt (s .core .settings) 1) * factorFor (s .core .settings) r));
       }
   unfolding cycledCore counted
   counts-disturbed h = rw (h, amounts-counted)
@@ -161,11 +161,11 @@ past k n true rest p e = absurd (rw (eq-eqb n k e) at p)
 past k n false rest p e = record { here = refl; later = e }
 
 -- refusal 14 is never given: 600 pulses of the largest value times the largest factor are below 10^17
-pub never-fourteen : (s : State) (archiveLength logLength : ℕ) (r : Brought) → cycleRefusal s archiveLength logLength r ≢ 14
+pub never-fourteen : (s : State) (archiveLength logLength : ℕ) (r : Brought) → cycleRefusal (wholeB s) s archiveLength logLength r ≢ 14
 unfolding cycleRefusal
 never-fourteen s archiveLength logLength r e =
     let one = past 14 1 (not (wholeB s && (eqb archiveLength archiveLines && eqb logLength logLines))) _ tt e in
-    let five = past 14 5 (ltb (r .time) (s .core .time)) _ tt (one .later) in
+    let five = past 14 5 (ltb (r .time) (s .core .measured .time)) _ tt (one .later) in
     let six = past 14 6 (leb endOfTime (r .time)) _ tt (five .later) in
     let seven = past 14 7 (ltb mostPulses (r .n)) _ tt (six .later) in
     let w : wholeB s ≡ true = and-left (wholeB s) (eqb archiveLength archiveLines && eqb logLength logLines) (not-false _ (one .here)) in
@@ -178,19 +178,19 @@ never-fourteen s archiveLength logLength r e =
 -- the lines held after a cycle, newest first: one for every month crossed, and those that were held, as far as the archive goes
 pub archive-after : (s : State) (r : Brought) (archive : List ArchiveLine) (log : List LogLine) → wholeB s ≡ true → length archive ≡ archiveLines →
     heldLines archiveLines noArchive (cycledCore (s .core) r .archive) (cycled s r archive log .archive)
-    ≡ take archiveLines (reverse (monthLines (s .core .counters) (s .core .month) (monthOf (r .time))) ++ heldLines archiveLines noArchive (s .core .archive) archive)
+    ≡ take archiveLines (reverse (monthLines (s .core .measured .counters) (s .core .measured .month) (monthOf (r .time))) ++ heldLines archiveLines noArchive (s .core .archive) archive)
 unfolding cycled cycledCore
 archive-after s r archive log w e =
-    whole-written archiveLines noArchive (s .core .archive) archive (monthLines (s .core .counters) (s .core .month) (monthOf (r .time))) (omega arith) e
+    whole-written archiveLines noArchive (s .core .archive) archive (monthLines (s .core .measured .counters) (s .core .measured .month) (monthOf (r .time))) (omega arith) e
     (ring-from archiveLines (s .core .archive) (whole-sound s w .core .archive-held))
 
 -- and of the logbook: the alarms that came or went, at the cycle's own time
 pub log-after : (s : State) (r : Brought) (archive : List ArchiveLine) (log : List LogLine) → wholeB s ≡ true → length log ≡ logLines →
     heldLines logLines noLog (cycledCore (s .core) r .log .ring) (cycled s r archive log .log)
-    ≡ take logLines (reverse (logged (s .core .log) (r .time) (changes (s .core .alarms) (alarmsFor (s .core .settings) r))) ++ heldLines logLines noLog (s .core .log .ring) log)
+    ≡ take logLines (reverse (logged (s .core .log) (r .time) (changes (s .core .measured .alarms) (alarmsFor (s .core .settings) r))) ++ heldLines logLines noLog (s .core .log .ring) log)
 unfolding cycled cycledCore advancedBook logged
 log-after s r archive log w e =
-    let codes : List ℕ = changes (s .core .alarms) (alarmsFor (s .core .settings) r) in
+    let codes : List ℕ = changes (s .core .measured .alarms) (alarmsFor (s .core .settings) r) in
     let lines : List LogLine = numbered (s .core .log .number) (r .time) codes in
     let held : FromFresh (ringAfter logLines) (s .core .log .ring) = book-ring logLines (s .core .log) (book-from log-common (s .core .log) (whole-sound s w .core .log-held)) in
     ap (λ (n : ℕ). heldLines logLines noLog (advancedRing logLines n (s .core .log .ring)) (written logLines (s .core .log .ring) log lines))

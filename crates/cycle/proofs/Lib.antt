@@ -1,6 +1,6 @@
 -- Laws of one measuring cycle.
-pub mod Changes
 pub mod Exact
+pub mod Fixed
 pub mod Join
 pub mod Laws
 pub mod Types

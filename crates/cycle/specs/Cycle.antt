@@ -2,7 +2,7 @@
 -- Assumes nothing.
 use Prim.Native.Nat.{ℕ, zero, suc, _+_, _-_, _%_}
 use mathlib.Core.Bool.{Bool, true, false, not, cond, _&&_, _||_}
-use mathlib.Core.List.{List, [], _∷_, _++_, map}
+use mathlib.Core.List.{List, [], _∷_, map}
 use lib.ListN.{length, getD}
 use lib.IntN.{ℤ}
 use lib.Ieee.{Float}
@@ -33,14 +33,16 @@ use Rattle.books.specs.declared.ArchiveLine.{ArchiveLine}
 use Rattle.books.specs.declared.LogLine.{LogLine}
 use Rattle.state.specs.declared.Counters.{Counters}
 use Rattle.state.specs.declared.Alarms.{Alarms}
+use Rattle.state.specs.declared.Measured.{Measured}
 use Rattle.state.specs.declared.Core.{Core}
 use Rattle.state.specs.declared.State.{State}
 use Rattle.state.specs.State.{wholeB}
 use Rattle.state.specs.Card.{firstOf}
-use Rattle.state.specs.declared.Answer.{Answer}
 use Rattle.ring.specs.Store.{written}
-use Rattle.notes.specs.Notes.{keep, logged}
-use Rattle.cycle.specs.declared.Brought.{Brought}
+use Rattle.notes.specs.declared.Note.{Note}
+use Rattle.notes.specs.Notes.{noteOf, noted, logged}
+use Rattle.commands.specs.declared.Brought.{Brought}
+use Rattle.commands.specs.Answers.{plain, Outcome, withBoth}
 
 -- The settings by their numbers in the table.
 abbrev pub naturalAt : List Setting → ℕ → ℕ
@@ -130,55 +132,59 @@ counted c true (Counted v b) = record { vm = c .vm; vmd = plusLitres (c .vmd) v;
 unfoldable pub latchesAfter : Alarms → Alarms → Alarms
 latchesAfter latch found = record { p = found .p || latch .p; t = found .t || latch .t; k = found .k || latch .k }
 
--- the codes of the alarms that came or went: p, T, K, the "came" lines before the "went" lines
+-- what may be noted of the alarms that came or went: p, T, K, the "came" lines before the "went" lines
+unfoldable pub changeNotes : Alarms → Alarms → List Note
+changeNotes before found =
+    noteOf (found .p && not (before .p)) 11 ∷ noteOf (found .t && not (before .t)) 12 ∷ noteOf (found .k && not (before .k)) 13
+    ∷ noteOf (before .p && not (found .p)) 21 ∷ noteOf (before .t && not (found .t)) 22 ∷ noteOf (before .k && not (found .k)) 23 ∷ []
+
+-- the codes of those that did
 unfoldable pub changes : Alarms → Alarms → List ℕ
-changes before found =
-    keep (found .p && not (before .p)) 11 ++ keep (found .t && not (before .t)) 12 ++ keep (found .k && not (before .k)) 13
-    ++ keep (before .p && not (found .p)) 21 ++ keep (before .t && not (found .t)) 22 ++ keep (before .k && not (found .k)) 23
+changes before found = noted (changeNotes before found)
 
 -- ---- the whole of it
 
-unfoldable pub cycleRefusal : State → ℕ → ℕ → Brought → ℕ
-cycleRefusal s archiveLength logLength r = firstOf (
-    (1, not (wholeB s && (eqb archiveLength archiveLines && eqb logLength logLines)))
-    ∷ (5, ltb (r .time) (s .core .time))
+-- `sound` says whether the state is whole
+unfoldable pub cycleRefusal : Bool → State → ℕ → ℕ → Brought → ℕ
+cycleRefusal sound s archiveLength logLength r = firstOf (
+    (1, not (sound && (eqb archiveLength archiveLines && eqb logLength logLines)))
+    ∷ (5, ltb (r .time) (s .core .measured .time))
     ∷ (6, leb endOfTime (r .time))
     ∷ (7, ltb mostPulses (r .n))
     ∷ (14, isTooLarge (amountsFor (s .core .settings) r))
     ∷ [])
 
+-- what was measured after a cycle at a time, by the alarms found and the amounts
+abbrev pub measuredBy : Measured → ℕ → Alarms → Amounts → Measured
+measuredBy m time found amounts = record {
+  time = time;
+  month = monthOf time;
+  counters = counted (m .counters) (anyAlarm found) amounts;
+  alarms = found;
+}
+
 unfoldable pub cycledCore : Core → Brought → Core
 cycledCore c r = record {
-  time = r .time;
-  month = monthOf (r .time);
-  counters = counted (c .counters) (anyAlarm (alarmsFor (c .settings) r)) (amountsFor (c .settings) r);
-  alarms = alarmsFor (c .settings) r;
+  measured = measuredBy (c .measured) (r .time) (alarmsFor (c .settings) r) (amountsFor (c .settings) r);
   latches = latchesAfter (c .latches) (alarmsFor (c .settings) r);
   locks = c .locks;
   settings = c .settings;
-  archive = advancedRing archiveLines (length (monthLines (c .counters) (c .month) (monthOf (r .time)))) (c .archive);
-  log = advancedBook logLines (length (changes (c .alarms) (alarmsFor (c .settings) r))) (c .log);
+  archive = advancedRing archiveLines (length (monthLines (c .measured .counters) (c .measured .month) (monthOf (r .time)))) (c .archive);
+  log = advancedBook logLines (length (changes (c .measured .alarms) (alarmsFor (c .settings) r))) (c .log);
   audit = c .audit;
 }
-
--- a command's answer with the two stores that it is lent
-pub record Outcome : Type 0 where
-  pub answer : Answer
-  pub archive : List ArchiveLine
-  pub log : List LogLine
 
 -- where no refusal applies: the state after it, the archive with a line for every month crossed, and the logbook with the alarms that came
 -- or went, at the cycle's own time
 unfoldable pub cycled : State → Brought → List ArchiveLine → List LogLine → Outcome
-cycled s r archive log = record {
-  answer = record { number = 0; state = record { core = cycledCore (s .core) r; keypad = s .keypad; port = s .port } };
-  archive = written archiveLines (s .core .archive) archive (monthLines (s .core .counters) (s .core .month) (monthOf (r .time)));
-  log = written logLines (s .core .log .ring) log (logged (s .core .log) (r .time) (changes (s .core .alarms) (alarmsFor (s .core .settings) r)));
-}
+cycled s r archive log =
+    withBoth
+    (record { reply = plain 0; state = record { core = cycledCore (s .core) r; keypad = s .keypad; port = s .port } })
+    (written archiveLines (s .core .archive) archive (monthLines (s .core .measured .counters) (s .core .measured .month) (monthOf (r .time))))
+    (written logLines (s .core .log .ring) log (logged (s .core .log) (r .time) (changes (s .core .measured .alarms) (alarmsFor (s .core .settings) r))))
 
 -- a refusal returns its number, and leaves all as it was
 unfoldable pub cycleOf : State → Brought → List ArchiveLine → List LogLine → Outcome
 cycleOf s r archive log =
-    let number = cycleRefusal s (length archive) (length log) r in
-    cond (eqb number 0) (cycled s r archive log)
-    (record { answer = record { number = number; state = s }; archive = archive; log = log })
+    let number = cycleRefusal (wholeB s) s (length archive) (length log) r in
+    cond (eqb number 0) (cycled s r archive log) (withBoth (record { reply = plain number; state = s }) archive log)

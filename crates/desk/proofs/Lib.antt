@@ -1,3 +1,4 @@
 -- The types that walks hand over; the laws of a block.
-pub mod Types
+pub mod Fixed
 pub mod Laws
+pub mod Types

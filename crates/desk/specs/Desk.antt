@@ -1,35 +1,31 @@
--- Commands on a desk, which is the device's state with its three stores: each is the device's own command, with the desk's stores lent.
+-- Lines put to a desk, which is the device's state with its three stores: a command comes to its step, with the desk's stores lent.
 -- Assumes nothing.
 use Prim.Native.Nat.{ℕ, zero, suc, min}
 use mathlib.Core.List.{List}
 use lib.ListN.{replicate, getD, set}
 use Rattle.ring.specs.Ring.{archiveLines, logLines, auditLines}
-use Rattle.books.specs.declared.ArchiveLine.{ArchiveLine}
-use Rattle.books.specs.declared.LogLine.{LogLine}
-use Rattle.books.specs.declared.AuditLine.{AuditLine}
 use Rattle.books.specs.Books.{noArchive, noLog, noAudit}
-use Rattle.state.specs.declared.State.{State}
 use Rattle.panel.specs.Panel.{startOf}
-use Rattle.text.specs.declared.commands.Command.{Command}
-use Rattle.text.specs.declared.commands.Command.the-variants as Commands
-use Rattle.text.specs.declared.replies.Reply.{Reply}
-use Rattle.text.specs.declared.replies.Reply.the-variants as Replies
-use Rattle.turns.specs.declared.Turn.{Turn}
-use Rattle.turns.specs.Turns.{turnOf, shownOf}
+use Rattle.commands.specs.declared.Entry.{Entry}
+use Rattle.commands.specs.declared.Entry.the-variants as entry
+use Rattle.commands.specs.declared.Echo.{Echo}
+use Rattle.commands.specs.declared.Echo.the-variants as echo
+use Rattle.commands.specs.Answers.{World}
+use Rattle.steps.specs.Step.{withState, step}
 use Rattle.desk.specs.declared.Desk.{Desk}
 use Rattle.desk.specs.declared.Started.{Started}
-use Rattle.desk.specs.declared.Order.{Order}
-use Rattle.desk.specs.declared.Said.{Said}
+use Rattle.desk.specs.declared.Input.{Input}
+use Rattle.desk.specs.declared.Output.{Output}
 use Rattle.desk.specs.declared.Served.{Served}
 
--- how many commands a block may have
+-- how many lines a block may have
 abbrev pub block : ℕ
 block = 256
 
 -- a start writes nothing into the stores: every line is one that was never written
 unfoldable pub started : ℕ → ℕ → ℕ → Started
 started time supcode custcode = record {
-  number = startOf time supcode custcode .number;
+  number = startOf time supcode custcode .reply .number;
   desk = record {
     state = startOf time supcode custcode .state;
     archive = replicate archiveLines noArchive;
@@ -38,52 +34,42 @@ started time supcode custcode = record {
   };
 }
 
--- ---- one command
+-- ---- one line
 
--- what a command that asks for a line is shown
-unfoldable pub shownOn : Desk → Command → Reply
-shownOn d c = shownOf (d .state) c (d .archive) (d .log) (d .audit)
+abbrev pub worldIn : Desk → World
+worldIn d = record { state = d .state; archive = d .archive; log = d .log; audit = d .audit }
 
--- the desk lends its three stores: what is answered, and the desk afterwards
-unfoldable pub replyOn : Desk → Command → Reply
-replyOn d c = turnOf (d .state) c (shownOn d c) (d .archive) (d .log) (d .audit) .turn .reply
+abbrev pub deskOf : World → Desk
+deskOf w = record { state = w .state; archive = w .archive; log = w .log; audit = w .audit }
 
-unfoldable pub deskAfter : Desk → Command → Desk
-deskAfter d c = record {
-  state = turnOf (d .state) c (shownOn d c) (d .archive) (d .log) (d .audit) .turn .state;
-  archive = turnOf (d .state) c (shownOn d c) (d .archive) (d .log) (d .audit) .archive;
-  log = turnOf (d .state) c (shownOn d c) (d .archive) (d .log) (d .audit) .log;
-  audit = turnOf (d .state) c (shownOn d c) (d .archive) (d .log) (d .audit) .audit;
-}
+-- A start takes the place of the state, also where it is refused: it then hands back the state of start time 0 and codes 0.
+unfoldable pub entered : Entry → World → World × Echo
+entered entry.Nothing w = (w, echo.Nothing)
+entered entry.Unknown w = (w, echo.Unknown)
+entered (entry.Start time supcode custcode) w =
+    (withState w (startOf time supcode custcode .state), echo.Said (startOf time supcode custcode .reply))
+entered (entry.Put c) w = ((step c w) .0, echo.Said ((step c w) .1))
 
--- ---- commands one after another
+-- ---- lines one after another
 
-abbrev pub noOrder : Order
-noOrder = record { command = Commands.Nothing }
+abbrev pub noInput : Input
+noInput = record { entry = entry.Nothing }
 
-abbrev pub nothingSaid : Said
-nothingSaid = record { reply = Replies.Nothing }
+abbrev pub noOutput : Output
+noOutput = record { echo = echo.Nothing }
 
-abbrev pub orderAt : List Order → ℕ → Command
-orderAt orders k = getD orders k noOrder .command
+abbrev pub entryAt : List Input → ℕ → Entry
+entryAt inputs k = getD inputs k noInput .entry
 
--- the desk after the first k
-unfoldable pub after : Desk → List Order → ℕ → Desk
-after d orders zero = d
-after d orders (suc k) = deskAfter (after d orders k) (orderAt orders k)
+-- the world after the first k
+unfoldable pub worldAfter : World → List Input → ℕ → World
+worldAfter w inputs zero = w
+worldAfter w inputs (suc k) = (entered (entryAt inputs k) (worldAfter w inputs k)) .0
 
--- what was answered to the first k, each at its place
-unfoldable pub saidUpTo : Desk → List Order → ℕ → List Said
-saidUpTo d orders zero = replicate block nothingSaid
-saidUpTo d orders (suc k) = set (saidUpTo d orders k) k (record { reply = replyOn (after d orders k) (orderAt orders k) })
+-- what was put out to the first k, each at its place
+unfoldable pub echoes : World → List Input → ℕ → List Output
+echoes w inputs zero = replicate block noOutput
+echoes w inputs (suc k) = set (echoes w inputs k) k (record { echo = (entered (entryAt inputs k) (worldAfter w inputs k)) .1 })
 
-unfoldable pub served : Desk → List Order → ℕ → Served
-served d orders count = record { desk = after d orders (min count block); said = saidUpTo d orders (min count block) }
-
--- ---- parts, by value
-
-unfoldable pub saidOf : Turn → Said
-saidOf t = record { reply = t .reply }
-
-unfoldable pub puttingTogether : State → List ArchiveLine → List LogLine → List AuditLine → List Said → Served
-puttingTogether s archive log audit said = record { desk = record { state = s; archive = archive; log = log; audit = audit }; said = said }
+unfoldable pub served : Desk → List Input → ℕ → Served
+served d inputs count = record { desk = deskOf (worldAfter (worldIn d) inputs (min count block)); outputs = echoes (worldIn d) inputs (min count block) }

@@ -1,2 +1,3 @@
 -- The device and its stores in one plain value.
 pub mod Desk
+pub mod Plan

@@ -3,14 +3,18 @@
 use books::ArchiveLine;
 use books::AuditLine;
 use books::LogLine;
+use commands::Answer;
+use commands::Command;
+use commands::Echo;
+use commands::Entry;
+use commands::Question;
+use commands::Reply;
 use state::State;
-use text::commands::Command;
-use text::replies::Reply;
-use turns::Turn;
 ghost use mathlib.Core.Path.{_≡_};
 ghost use lib.ListN.{getD, set, replicate};
 ghost use Prim.Native.Nat.{min};
-ghost use Rattle.desk.specs.Desk.{block, started, noOrder, nothingSaid, saidOf, puttingTogether, served};
+ghost use Rattle.desk.specs.Desk.{block, started, noInput, noOutput, served};
+ghost use Rattle.desk.specs.Plan.{commandIn, answeredIn, echoBy, outputBy, soundBy, puttingTogether};
 
 // The sizes of the stores, as lengths of arrays.
 
@@ -20,7 +24,7 @@ pub const LOG: usize = ring::LOG_LINES as usize;
 
 pub const AUDIT: usize = ring::AUDIT_LINES as usize;
 
-// How many commands a block may have.
+// How many lines a block may have.
 pub const BLOCK: usize = 256;
 
 pub struct Desk {
@@ -38,18 +42,18 @@ pub struct Started {
 
 // A command to come, and what was answered to one, as elements of arrays.
 
-pub struct Order {
-    pub command: Command,
+pub struct Input {
+    pub entry: Entry,
 }
 
-pub struct Said {
-    pub reply: Reply,
+pub struct Output {
+    pub echo: Echo,
 }
 
 // The desk after a block, and what was answered to each of its commands.
 pub struct Served {
     pub desk: Desk,
-    pub said: [Said; BLOCK],
+    pub outputs: [Output; BLOCK],
 }
 
 // A start writes nothing into the stores: their lines are blank, and none is held.
@@ -67,8 +71,9 @@ pub fn fresh(time: u64, supcode: u32, custcode: u32) -> Started
         log: [event; LOG],
         audit: [change; AUDIT],
     };
+    let reply = a.reply;
     Started {
-        number: a.number,
+        number: reply.number,
         desk: desk,
     }
 }
@@ -104,9 +109,9 @@ fn put_together(
     archive: [ArchiveLine; ARCHIVE],
     log: [LogLine; LOG],
     audit: [AuditLine; AUDIT],
-    said: [Said; BLOCK],
+    outputs: [Output; BLOCK],
 ) -> Served
-    ensures { λ r. ⌜ r ≡ puttingTogether s archive log audit said ⌝ }
+    ensures { λ r. ⌜ r ≡ puttingTogether s archive log audit outputs ⌝ }
 {
     let desk = Desk {
         state: s,
@@ -116,62 +121,110 @@ fn put_together(
     };
     Served {
         desk: desk,
-        said: said,
+        outputs: outputs,
     }
 }
 
 // ---- the commands and the answers of a block
 
-pub fn no_order() -> Order
-    ensures { λ r. ⌜ r ≡ noOrder ⌝ }
+pub fn no_input() -> Input
+    ensures { λ r. ⌜ r ≡ noInput ⌝ }
 {
-    Order {
-        command: Command::Nothing,
+    Input {
+        entry: Entry::Nothing,
     }
 }
 
-fn fetch_order(orders: &[Order], i: usize) -> Order
-    ensures { λ r. ⌜ r ≡ getD (now (orders .entry)) i noOrder ⌝ }
+fn fetch_input(inputs: &[Input], i: usize) -> Input
+    ensures { λ r. ⌜ r ≡ getD (now (inputs .entry)) i noInput ⌝ }
 {
-    if i < orders.len() {
-        return orders[i];
+    if i < inputs.len() {
+        return inputs[i];
     }
-    no_order()
+    no_input()
 }
 
-fn command_in(x: Order) -> Command
-    ensures { λ r. ⌜ r ≡ x .command ⌝ }
+fn entry_in(x: Input) -> Entry
+    ensures { λ r. ⌜ r ≡ x .entry ⌝ }
 {
-    x.command
+    x.entry
 }
 
-fn nothing_said() -> [Said; BLOCK]
-    ensures { λ r. ⌜ r ≡ replicate block nothingSaid ⌝ }
+// What is no command changes nothing, as a question does.
+fn command_in(e: Entry) -> Command
+    ensures { λ r. ⌜ r ≡ commandIn e ⌝ }
 {
-    let none = Said {
-        reply: Reply::Nothing,
+    match e {
+        Entry::Nothing => Command::Ask(Question::Report),
+        Entry::Unknown => Command::Ask(Question::Report),
+        Entry::Start(_, _, _) => Command::Ask(Question::Report),
+        Entry::Put(c) => c,
+    }
+}
+
+fn no_outputs() -> [Output; BLOCK]
+    ensures { λ r. ⌜ r ≡ replicate block noOutput ⌝ }
+{
+    let none = Output {
+        echo: Echo::Nothing,
     };
     [none; BLOCK]
 }
 
-fn said_in(t: Turn) -> Said
-    ensures { λ r. ⌜ r ≡ saidOf t ⌝ }
+// A start takes the place of the device that is there.
+fn answered_in(e: Entry, a: Answer) -> Answer
+    ensures { λ r. ⌜ r ≡ answeredIn e a ⌝ }
 {
-    let reply = t.reply;
-    Said { reply: reply }
+    match e {
+        Entry::Nothing => a,
+        Entry::Unknown => a,
+        Entry::Start(time, supcode, custcode) => panel::start(time, supcode, custcode),
+        Entry::Put(_) => a,
+    }
 }
 
-fn state_in(t: Turn) -> State
-    ensures { λ r. ⌜ r ≡ t .state ⌝ }
+fn echo_by(e: Entry, reply: Reply) -> Echo
+    ensures { λ r. ⌜ r ≡ echoBy e reply ⌝ }
 {
-    t.state
+    match e {
+        Entry::Nothing => Echo::Nothing,
+        Entry::Unknown => Echo::Unknown,
+        Entry::Start(_, _, _) => Echo::Said(reply),
+        Entry::Put(_) => Echo::Said(reply),
+    }
 }
 
-fn put_said(said: &mut [Said], i: usize, x: Said)
-    ensures { λ _. ⌜ now (said .exit) ≡ set (now (said .entry)) i x ⌝ }
+fn output_by(e: Entry, a: Answer) -> Output
+    ensures { λ r. ⌜ r ≡ outputBy e a ⌝ }
 {
-    if i < said.len() {
-        said[i] = x;
+    let reply = a.reply;
+    let echo = echo_by(e, reply);
+    Output { echo: echo }
+}
+
+fn state_in(a: Answer) -> State
+    ensures { λ r. ⌜ r ≡ a .state ⌝ }
+{
+    a.state
+}
+
+// A command leaves it as it was whether the state is whole, and a start hands a whole one back.
+fn sound_by(e: Entry, sound: bool) -> bool
+    ensures { λ r. ⌜ r ≡ soundBy e sound ⌝ }
+{
+    match e {
+        Entry::Nothing => sound,
+        Entry::Unknown => sound,
+        Entry::Start(_, _, _) => true,
+        Entry::Put(_) => sound,
+    }
+}
+
+fn put_output(outputs: &mut [Output], i: usize, x: Output)
+    ensures { λ _. ⌜ now (outputs .exit) ≡ set (now (outputs .entry)) i x ⌝ }
+{
+    if i < outputs.len() {
+        outputs[i] = x;
         return;
     }
 }
@@ -182,26 +235,30 @@ fn in_block(count: usize) -> usize
     if count < BLOCK { count } else { BLOCK }
 }
 
-// Puts the first commands of a block to the desk, one after another.
-pub fn serve(d: Desk, orders: [Order; BLOCK], count: usize) -> Served
-    ensures { λ r. ⌜ r ≡ served d orders count ⌝ }
+// Puts the first lines of a block to the desk, one after another. Whether the state is whole is tested once.
+pub fn serve(d: Desk, inputs: [Input; BLOCK], count: usize) -> Served
+    ensures { λ r. ⌜ r ≡ served d inputs count ⌝ }
 {
     let n = in_block(count);
     let mut s = state_of(d);
+    let mut sound = state::whole(s);
     let mut archive = archive_of(d);
     let mut log = log_of(d);
     let mut audit = audit_of(d);
-    let mut said = nothing_said();
+    let mut outputs = no_outputs();
     let mut k: usize = 0;
     while k < n {
-        let x = fetch_order(&orders, k);
-        let c = command_in(x);
-        let seen = turns::shown(s, c, &archive, &log, &audit);
-        let t = turns::answer(s, c, seen, &mut archive, &mut log, &mut audit);
-        let y = said_in(t);
-        put_said(&mut said, k, y);
-        s = state_in(t);
+        let x = fetch_input(&inputs, k);
+        let e = entry_in(x);
+        let c = command_in(e);
+        let seen = device::seen(s, sound, c, &archive, &log, &audit);
+        let a = device::answer(s, sound, c, seen, &mut archive, &mut log, &mut audit);
+        let b = answered_in(e, a);
+        let y = output_by(e, b);
+        put_output(&mut outputs, k, y);
+        s = state_in(b);
+        sound = sound_by(e, sound);
         k = k + 1;
     }
-    put_together(s, archive, log, audit, said)
+    put_together(s, archive, log, audit, outputs)
 }

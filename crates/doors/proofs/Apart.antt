@@ -15,7 +15,7 @@ use Rattle.state.specs.declared.Session.{Session}
 use Rattle.state.specs.declared.State.{State}
 use Rattle.state.specs.State.{noSession, wholeB}
 use Rattle.asked.specs.Asked.{lineRefusal}
-use Rattle.doors.specs.Doors.{sessionAt, otherAt, withSession, cellAt, withCell, markedRead, stagedCell, begun, beginRefusal, beginOf, abandonRefusal, abandonOf, readRefusal, valueRead, readAfter, readOf, writeRefusal, writeAfter, writeOf, commitRefusal, commitLines, committed, refusedCommit, commitOf, auditLineOf}
+use Rattle.doors.specs.Doors.{sessionAt, otherAt, withSession, cellAt, withCell, markedRead, stagedCell, begun, beginRefusal, beginBy, beginOf, abandonRefusal, abandonBy, abandonOf, readRefusal, valueRead, readAfter, readBy, readOf, writeRefusal, writeAfter, writeBy, writeOf, commitRefusal, commitLines, committed, refusedCommit, commitOf, auditLineBy, auditLineOf}
 use Rattle.state.proofs.Sound.{no-session}
 use Rattle.doors.proofs.Stays.{with-session-whole, begun-sound, read-after-whole, write-after-whole, committed-whole}
 use Rattle.doors.proofs.Laws.{Beside, with-mine, with-core, placed-mine, commit-number, placed-core, begin-knows, abandon-knows, ended-knows}
@@ -38,31 +38,31 @@ module _ {door : ℕ} {s t : State} (p : Beside door s t) where
 
   -- ---- the same answers
 
-  pub same-begin : beginOf t (otherDoor door) .number ≡ beginOf s (otherDoor door) .number
-  unfolding beginOf beginRefusal
+  pub same-begin : beginOf t (otherDoor door) .reply .number ≡ beginOf s (otherDoor door) .reply .number
+  unfolding beginBy beginRefusal
   same-begin = simp (p .whole, same-session)
 
-  pub same-abandon : abandonOf t (otherDoor door) .number ≡ abandonOf s (otherDoor door) .number
-  unfolding abandonOf abandonRefusal
+  pub same-abandon : abandonOf t (otherDoor door) .reply .number ≡ abandonOf s (otherDoor door) .reply .number
+  unfolding abandonBy abandonRefusal
   same-abandon = simp (p .whole, same-session)
 
-  same-reading : (setting : ℕ) → readRefusal t (otherDoor door) setting ≡ readRefusal s (otherDoor door) setting
+  same-reading : (setting : ℕ) → readRefusal (wholeB t) t (otherDoor door) setting ≡ readRefusal (wholeB s) s (otherDoor door) setting
   unfolding readRefusal
   same-reading setting = simp (p .whole, same-session)
 
-  pub same-read : (setting : ℕ) → readOf t (otherDoor door) setting .number ≡ readOf s (otherDoor door) setting .number
-  unfolding readOf
+  pub same-read : (setting : ℕ) → readOf t (otherDoor door) setting .reply .number ≡ readOf s (otherDoor door) setting .reply .number
+  unfolding readBy
   same-read setting = same-reading setting
 
-  pub same-value : (setting : ℕ) → readOf t (otherDoor door) setting .value ≡ readOf s (otherDoor door) setting .value
-  unfolding readOf valueRead
+  pub same-value : (setting : ℕ) → readOf t (otherDoor door) setting .reply .given ≡ readOf s (otherDoor door) setting .reply .given
+  unfolding readBy valueRead
   same-value setting = simp (same-reading setting, same-session, p .core)
 
-  pub same-write : (setting : ℕ) (v : Value) → writeOf t (otherDoor door) setting v .number ≡ writeOf s (otherDoor door) setting v .number
-  unfolding writeOf writeRefusal
+  pub same-write : (setting : ℕ) (v : Value) → writeOf t (otherDoor door) setting v .reply .number ≡ writeOf s (otherDoor door) setting v .reply .number
+  unfolding writeBy writeRefusal
   same-write setting v = simp (p .whole, same-session)
 
-  same-committing : (n : ℕ) → commitRefusal t (otherDoor door) n ≡ commitRefusal s (otherDoor door) n
+  same-committing : (n : ℕ) → commitRefusal (wholeB t) t (otherDoor door) n ≡ commitRefusal (wholeB s) s (otherDoor door) n
   unfolding commitRefusal
   same-committing n = simp (p .whole, same-session, p .core)
 
@@ -71,19 +71,19 @@ module _ {door : ℕ} {s t : State} (p : Beside door s t) where
   same-lines = simp (same-session, p .core)
 
   pub same-audit-line : (i : ℕ) (l : List AuditLine) → auditLineOf t i l ≡ auditLineOf s i l
-  unfolding auditLineOf lineRefusal
+  unfolding auditLineBy lineRefusal
   same-audit-line i l = simp (p .whole, p .core)
 
-  pub same-commit : (l : List AuditLine) → commitOf t (otherDoor door) l .answer .number ≡ commitOf s (otherDoor door) l .answer .number
+  pub same-commit : (l : List AuditLine) → commitOf t (otherDoor door) l .answer .reply .number ≡ commitOf s (otherDoor door) l .answer .reply .number
   same-commit l = commit-number t (otherDoor door) l ∙ same-committing (length l) ∙ sym (commit-number s (otherDoor door) l)
 
-  trail-by : (l : List AuditLine) → Either (eqb (commitRefusal s (otherDoor door) (length l)) 0) → commitOf t (otherDoor door) l .audit ≡ commitOf s (otherDoor door) l .audit
+  trail-by : (l : List AuditLine) → Either (eqb (commitRefusal (wholeB s) s (otherDoor door) (length l)) 0) → commitOf t (otherDoor door) l .audit ≡ commitOf s (otherDoor door) l .audit
   unfolding commitOf
   trail-by l (is-true b) = simp (same-committing (length l), b, same-lines, p .core)
   trail-by l (is-false b) = simp (same-committing (length l), b)
 
   pub same-trail : (l : List AuditLine) → commitOf t (otherDoor door) l .audit ≡ commitOf s (otherDoor door) l .audit
-  same-trail l = trail-by l (either-of (eqb (commitRefusal s (otherDoor door) (length l)) 0))
+  same-trail l = trail-by l (either-of (eqb (commitRefusal (wholeB s) s (otherDoor door) (length l)) 0))
 
   -- ---- and so on: after the same step at the other door they still differ in this door's session alone
 
@@ -101,44 +101,44 @@ module _ {door : ℕ} {s t : State} (p : Beside door s t) where
   chosen-on false x y e f g = p
 
   pub begin-on : Beside door (beginOf s (otherDoor door) .state) (beginOf t (otherDoor door) .state)
-  unfolding beginOf
+  unfolding beginBy
   begin-on =
       rw same-begin
-      (chosen-on (eqb (beginRefusal s (otherDoor door)) 0) begun begun refl
-      (λ b. with-session-whole s (otherDoor door) begun (begin-knows s (otherDoor door) (eqb-true (beginRefusal s (otherDoor door)) 0 b)) begun-sound)
-      (λ b. with-session-whole t (otherDoor door) begun (p .whole ∙ begin-knows s (otherDoor door) (eqb-true (beginRefusal s (otherDoor door)) 0 b)) begun-sound))
+      (chosen-on (eqb (beginRefusal (wholeB s) s (otherDoor door)) 0) begun begun refl
+      (λ b. with-session-whole s (otherDoor door) begun (begin-knows s (otherDoor door) (eqb-true (beginRefusal (wholeB s) s (otherDoor door)) 0 b)) begun-sound)
+      (λ b. with-session-whole t (otherDoor door) begun (p .whole ∙ begin-knows s (otherDoor door) (eqb-true (beginRefusal (wholeB s) s (otherDoor door)) 0 b)) begun-sound))
 
   pub abandon-on : Beside door (abandonOf s (otherDoor door) .state) (abandonOf t (otherDoor door) .state)
-  unfolding abandonOf
+  unfolding abandonBy
   abandon-on =
       rw same-abandon
-      (chosen-on (eqb (abandonRefusal s (otherDoor door)) 0) noSession noSession refl
-      (λ b. with-session-whole s (otherDoor door) noSession (abandon-knows s (otherDoor door) (eqb-true (abandonRefusal s (otherDoor door)) 0 b)) no-session)
-      (λ b. with-session-whole t (otherDoor door) noSession (p .whole ∙ abandon-knows s (otherDoor door) (eqb-true (abandonRefusal s (otherDoor door)) 0 b)) no-session))
+      (chosen-on (eqb (abandonRefusal (wholeB s) s (otherDoor door)) 0) noSession noSession refl
+      (λ b. with-session-whole s (otherDoor door) noSession (abandon-knows s (otherDoor door) (eqb-true (abandonRefusal (wholeB s) s (otherDoor door)) 0 b)) no-session)
+      (λ b. with-session-whole t (otherDoor door) noSession (p .whole ∙ abandon-knows s (otherDoor door) (eqb-true (abandonRefusal (wholeB s) s (otherDoor door)) 0 b)) no-session))
 
   pub read-on : (setting : ℕ) → Beside door (readOf s (otherDoor door) setting .state) (readOf t (otherDoor door) setting .state)
-  unfolding readOf readAfter
+  unfolding readBy readAfter
   read-on setting =
       rw (same-reading setting)
-      (chosen-on (eqb (readRefusal s (otherDoor door) setting) 0)
+      (chosen-on (eqb (readRefusal (wholeB s) s (otherDoor door) setting) 0)
       (withCell (sessionAt s (otherDoor door)) setting (markedRead (cellAt (sessionAt s (otherDoor door)) setting)))
       (withCell (sessionAt t (otherDoor door)) setting (markedRead (cellAt (sessionAt t (otherDoor door)) setting)))
       (rw same-session)
-      (λ b. read-after-whole s (otherDoor door) setting (eqb-true (readRefusal s (otherDoor door) setting) 0 b))
-      (λ b. read-after-whole t (otherDoor door) setting (same-reading setting ∙ eqb-true (readRefusal s (otherDoor door) setting) 0 b)))
+      (λ b. read-after-whole s (otherDoor door) setting (eqb-true (readRefusal (wholeB s) s (otherDoor door) setting) 0 b))
+      (λ b. read-after-whole t (otherDoor door) setting (same-reading setting ∙ eqb-true (readRefusal (wholeB s) s (otherDoor door) setting) 0 b)))
 
   pub write-on : (setting : ℕ) (v : Value) → Beside door (writeOf s (otherDoor door) setting v .state) (writeOf t (otherDoor door) setting v .state)
-  unfolding writeOf writeAfter
+  unfolding writeBy writeAfter
   write-on setting v =
       rw (same-write setting v)
-      (chosen-on (eqb (writeRefusal s (otherDoor door) setting v) 0)
+      (chosen-on (eqb (writeRefusal (wholeB s) s (otherDoor door) setting v) 0)
       (withCell (sessionAt s (otherDoor door)) setting (stagedCell (cellAt (sessionAt s (otherDoor door)) setting) v))
       (withCell (sessionAt t (otherDoor door)) setting (stagedCell (cellAt (sessionAt t (otherDoor door)) setting) v))
       (rw same-session)
-      (λ b. write-after-whole s (otherDoor door) setting v (eqb-true (writeRefusal s (otherDoor door) setting v) 0 b))
-      (λ b. write-after-whole t (otherDoor door) setting v (same-write setting v ∙ eqb-true (writeRefusal s (otherDoor door) setting v) 0 b)))
+      (λ b. write-after-whole s (otherDoor door) setting v (eqb-true (writeRefusal (wholeB s) s (otherDoor door) setting v) 0 b))
+      (λ b. write-after-whole t (otherDoor door) setting v (same-write setting v ∙ eqb-true (writeRefusal (wholeB s) s (otherDoor door) setting v) 0 b)))
 
-  committed-on : (n : ℕ) → commitRefusal s (otherDoor door) n ≡ 0 → Beside door (committed s (otherDoor door)) (committed t (otherDoor door))
+  committed-on : (n : ℕ) → commitRefusal (wholeB s) s (otherDoor door) n ≡ 0 → Beside door (committed s (otherDoor door)) (committed t (otherDoor door))
   unfolding committed
   committed-on n z =
       placed-on (committed s (otherDoor door)) (committed t (otherDoor door))
@@ -147,18 +147,18 @@ module _ {door : ℕ} {s t : State} (p : Beside door s t) where
       (committed-whole s (otherDoor door) n z)
       (committed-whole t (otherDoor door) n (same-committing n ∙ z))
 
-  refused-on : (n : ℕ) → Beside door (refusedCommit s (otherDoor door) (commitRefusal s (otherDoor door) n)) (refusedCommit t (otherDoor door) (commitRefusal s (otherDoor door) n))
+  refused-on : (n : ℕ) → Beside door (refusedCommit s (otherDoor door) (commitRefusal (wholeB s) s (otherDoor door) n)) (refusedCommit t (otherDoor door) (commitRefusal (wholeB s) s (otherDoor door) n))
   unfolding refusedCommit
   refused-on n =
-      chosen-on (leb 10 (commitRefusal s (otherDoor door) n)) noSession noSession refl
-      (λ b. with-session-whole s (otherDoor door) noSession (ended-knows s (otherDoor door) n (leb-true 10 (commitRefusal s (otherDoor door) n) b)) no-session)
-      (λ b. with-session-whole t (otherDoor door) noSession (p .whole ∙ ended-knows s (otherDoor door) n (leb-true 10 (commitRefusal s (otherDoor door) n) b)) no-session)
+      chosen-on (leb 10 (commitRefusal (wholeB s) s (otherDoor door) n)) noSession noSession refl
+      (λ b. with-session-whole s (otherDoor door) noSession (ended-knows s (otherDoor door) n (leb-true 10 (commitRefusal (wholeB s) s (otherDoor door) n) b)) no-session)
+      (λ b. with-session-whole t (otherDoor door) noSession (p .whole ∙ ended-knows s (otherDoor door) n (leb-true 10 (commitRefusal (wholeB s) s (otherDoor door) n) b)) no-session)
 
-  commit-by : (l : List AuditLine) → Either (eqb (commitRefusal s (otherDoor door) (length l)) 0) →
+  commit-by : (l : List AuditLine) → Either (eqb (commitRefusal (wholeB s) s (otherDoor door) (length l)) 0) →
       Beside door (commitOf s (otherDoor door) l .answer .state) (commitOf t (otherDoor door) l .answer .state)
   unfolding commitOf
-  commit-by l (is-true b) = simp (same-committing (length l), b) (committed-on (length l) (eqb-true (commitRefusal s (otherDoor door) (length l)) 0 b))
+  commit-by l (is-true b) = simp (same-committing (length l), b) (committed-on (length l) (eqb-true (commitRefusal (wholeB s) s (otherDoor door) (length l)) 0 b))
   commit-by l (is-false b) = simp (same-committing (length l), b) (refused-on (length l))
 
   pub commit-on : (l : List AuditLine) → Beside door (commitOf s (otherDoor door) l .answer .state) (commitOf t (otherDoor door) l .answer .state)
-  commit-on l = commit-by l (either-of (eqb (commitRefusal s (otherDoor door) (length l)) 0))
+  commit-on l = commit-by l (either-of (eqb (commitRefusal (wholeB s) s (otherDoor door) (length l)) 0))

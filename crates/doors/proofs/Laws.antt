@@ -23,20 +23,21 @@ use Rattle.state.specs.declared.Core.{Core}
 use Rattle.state.specs.declared.State.{State}
 use Rattle.state.specs.State.{blankCell, noSession, wholeB}
 use Rattle.state.proofs.Card.{passes, not-false}
+use Rattle.commands.specs.declared.Given.the-variants as given
 use Rattle.asked.proofs.Laws.{line-read}
-use Rattle.doors.specs.Doors.{sessionAt, otherAt, placed, withSession, cellAt, withCell, begun, beginRefusal, beginOf, abandonRefusal, abandonOf, readRefusal, markedRead, readAfter, readOf, writeRefusal, stagedCell, writeAfter, writeOf, commitRefusal, commitLines, committed, refusedCommit, commitOf, auditAnswered, auditLineOf}
+use Rattle.doors.specs.Doors.{sessionAt, otherAt, placed, withSession, cellAt, withCell, begun, beginRefusal, beginBy, beginOf, abandonRefusal, abandonBy, abandonOf, readRefusal, markedRead, readAfter, readBy, readOf, writeRefusal, stagedCell, writeAfter, writeBy, writeOf, commitRefusal, commitLines, committed, refusedCommit, commitOf, auditLineBy, auditLineOf}
 use Rattle.doors.proofs.Stays.{read-accepted, write-accepted, begin-whole, abandon-whole, read-whole, write-whole}
 
 -- ---- a commit, done or refused
 
-number-by : (s : State) (door : ℕ) (l : List AuditLine) → Either (eqb (commitRefusal s door (length l)) 0) →
-    commitOf s door l .answer .number ≡ commitRefusal s door (length l)
+number-by : (s : State) (door : ℕ) (l : List AuditLine) → Either (eqb (commitRefusal (wholeB s) s door (length l)) 0) →
+    commitOf s door l .answer .reply .number ≡ commitRefusal (wholeB s) s door (length l)
 unfolding commitOf
-number-by s door l (is-true t) = rw t (sym (eqb-true (commitRefusal s door (length l)) 0 t))
+number-by s door l (is-true t) = rw t (sym (eqb-true (commitRefusal (wholeB s) s door (length l)) 0 t))
 number-by s door l (is-false f) = rw f
 
-pub commit-number : (s : State) (door : ℕ) (l : List AuditLine) → commitOf s door l .answer .number ≡ commitRefusal s door (length l)
-commit-number s door l = number-by s door l (either-of (eqb (commitRefusal s door (length l)) 0))
+pub commit-number : (s : State) (door : ℕ) (l : List AuditLine) → commitOf s door l .answer .reply .number ≡ commitRefusal (wholeB s) s door (length l)
+commit-number s door l = number-by s door l (either-of (eqb (commitRefusal (wholeB s) s door (length l)) 0))
 
 pub refused-kept : (s : State) (door number : ℕ) → number < 10 → refusedCommit s door number ≡ s
 unfolding refusedCommit
@@ -46,14 +47,14 @@ pub refused-ended : (s : State) (door number : ℕ) → 10 ≤ number → refuse
 unfolding refusedCommit
 refused-ended s door number h = rw (le-leb 10 number h)
 
-done-by : (s : State) (door : ℕ) (l : List AuditLine) → eqb (commitRefusal s door (length l)) 0 ≡ true →
+done-by : (s : State) (door : ℕ) (l : List AuditLine) → eqb (commitRefusal (wholeB s) s door (length l)) 0 ≡ true →
     (commitOf s door l .answer .state ≡ committed s door) × (commitOf s door l .audit ≡ written auditLines (s .core .audit .ring) l (commitLines s door))
 unfolding commitOf
 done-by s door l t = (rw t, rw t)
 
-pub commit-done : (s : State) (door : ℕ) (l : List AuditLine) → commitOf s door l .answer .number ≡ 0 →
+pub commit-done : (s : State) (door : ℕ) (l : List AuditLine) → commitOf s door l .answer .reply .number ≡ 0 →
     (commitOf s door l .answer .state ≡ committed s door) × (commitOf s door l .audit ≡ written auditLines (s .core .audit .ring) l (commitLines s door))
-commit-done s door l e = done-by s door l (eq-eqb (commitRefusal s door (length l)) 0 (sym (commit-number s door l) ∙ e))
+commit-done s door l e = done-by s door l (eq-eqb (commitRefusal (wholeB s) s door (length l)) 0 (sym (commit-number s door l) ∙ e))
 
 -- ---- the two sessions of a placed state
 
@@ -104,36 +105,36 @@ chosen-beside : (b : Bool) (door : ℕ) (s : State) (x : Session) → (b ≡ tru
 chosen-beside true door s x w g = record { core = with-core s door x; other = with-theirs s door x; whole = g (w refl) ∙ sym (w refl) }
 chosen-beside false door s x w g = beside-itself door s
 
-pub begin-knows : (s : State) (door : ℕ) → beginRefusal s door ≡ 0 → wholeB s ≡ true
+pub begin-knows : (s : State) (door : ℕ) → beginRefusal (wholeB s) s door ≡ 0 → wholeB s ≡ true
 unfolding beginRefusal
 begin-knows s door z = not-false (wholeB s) (passes 1 (not (wholeB s)) _ (omega arith) z .here)
 
 pub begin-beside : (s : State) (door : ℕ) → Beside door s (beginOf s door .state)
-unfolding beginOf
+unfolding beginBy
 begin-beside s door =
-    chosen-beside (eqb (beginRefusal s door) 0) door s begun (λ t. begin-knows s door (eqb-true (beginRefusal s door) 0 t)) (begin-whole s door)
+    chosen-beside (eqb (beginRefusal (wholeB s) s door) 0) door s begun (λ t. begin-knows s door (eqb-true (beginRefusal (wholeB s) s door) 0 t)) (begin-whole s door)
 
-pub abandon-knows : (s : State) (door : ℕ) → abandonRefusal s door ≡ 0 → wholeB s ≡ true
+pub abandon-knows : (s : State) (door : ℕ) → abandonRefusal (wholeB s) s door ≡ 0 → wholeB s ≡ true
 unfolding abandonRefusal
 abandon-knows s door z = not-false (wholeB s) (passes 1 (not (wholeB s)) _ (omega arith) z .here)
 
 pub abandon-beside : (s : State) (door : ℕ) → Beside door s (abandonOf s door .state)
-unfolding abandonOf
+unfolding abandonBy
 abandon-beside s door =
-    chosen-beside (eqb (abandonRefusal s door) 0) door s noSession (λ t. abandon-knows s door (eqb-true (abandonRefusal s door) 0 t)) (abandon-whole s door)
+    chosen-beside (eqb (abandonRefusal (wholeB s) s door) 0) door s noSession (λ t. abandon-knows s door (eqb-true (abandonRefusal (wholeB s) s door) 0 t)) (abandon-whole s door)
 
 pub read-beside : (s : State) (door setting : ℕ) → Beside door s (readOf s door setting .state)
-unfolding readOf readAfter
+unfolding readBy readAfter
 read-beside s door setting =
-    chosen-beside (eqb (readRefusal s door setting) 0) door s (withCell (sessionAt s door) setting (markedRead (cellAt (sessionAt s door) setting)))
-    (λ t. read-accepted s door setting (eqb-true (readRefusal s door setting) 0 t) .0 .whole)
+    chosen-beside (eqb (readRefusal (wholeB s) s door setting) 0) door s (withCell (sessionAt s door) setting (markedRead (cellAt (sessionAt s door) setting)))
+    (λ t. read-accepted s door setting (eqb-true (readRefusal (wholeB s) s door setting) 0 t) .0 .whole)
     (read-whole s door setting)
 
 pub write-beside : (s : State) (door setting : ℕ) (v : Value) → Beside door s (writeOf s door setting v .state)
-unfolding writeOf writeAfter
+unfolding writeBy writeAfter
 write-beside s door setting v =
-    chosen-beside (eqb (writeRefusal s door setting v) 0) door s (withCell (sessionAt s door) setting (stagedCell (cellAt (sessionAt s door) setting) v))
-    (λ t. write-accepted s door setting v (eqb-true (writeRefusal s door setting v) 0 t) .0 .whole)
+    chosen-beside (eqb (writeRefusal (wholeB s) s door setting v) 0) door s (withCell (sessionAt s door) setting (stagedCell (cellAt (sessionAt s door) setting) v))
+    (λ t. write-accepted s door setting v (eqb-true (writeRefusal (wholeB s) s door setting v) 0 t) .0 .whole)
     (write-whole s door setting v)
 
 -- ---- what was read stays read
@@ -160,24 +161,24 @@ chosen-keeps f false s door x g k = refl
 -- a write takes no "read" back, nor a mark of the other door
 pub write-keeps-read : (s : State) (door setting : ℕ) (v : Value) (k : ℕ) →
     getD (sessionAt (writeOf s door setting v .state) door .cells) k blankCell .read ≡ getD (sessionAt s door .cells) k blankCell .read
-unfolding writeOf writeAfter stagedCell
+unfolding writeBy writeAfter stagedCell
 write-keeps-read s door setting v =
-    chosen-keeps (λ c. c .read) (eqb (writeRefusal s door setting v) 0) s door (withCell (sessionAt s door) setting (stagedCell (cellAt (sessionAt s door) setting) v))
+    chosen-keeps (λ c. c .read) (eqb (writeRefusal (wholeB s) s door setting v) 0) s door (withCell (sessionAt s door) setting (stagedCell (cellAt (sessionAt s door) setting) v))
     (put-keeps (λ c. c .read) (sessionAt s door) setting (stagedCell (cellAt (sessionAt s door) setting) v) refl)
 
 pub write-keeps-marks : (s : State) (door setting : ℕ) (v : Value) (k : ℕ) →
     getD (sessionAt (writeOf s door setting v .state) door .cells) k blankCell .overtaken ≡ getD (sessionAt s door .cells) k blankCell .overtaken
-unfolding writeOf writeAfter stagedCell
+unfolding writeBy writeAfter stagedCell
 write-keeps-marks s door setting v =
-    chosen-keeps (λ c. c .overtaken) (eqb (writeRefusal s door setting v) 0) s door (withCell (sessionAt s door) setting (stagedCell (cellAt (sessionAt s door) setting) v))
+    chosen-keeps (λ c. c .overtaken) (eqb (writeRefusal (wholeB s) s door setting v) 0) s door (withCell (sessionAt s door) setting (stagedCell (cellAt (sessionAt s door) setting) v))
     (put-keeps (λ c. c .overtaken) (sessionAt s door) setting (stagedCell (cellAt (sessionAt s door) setting) v) refl)
 
 -- nor does a read take a mark back
 pub read-keeps-marks : (s : State) (door setting k : ℕ) →
     getD (sessionAt (readOf s door setting .state) door .cells) k blankCell .overtaken ≡ getD (sessionAt s door .cells) k blankCell .overtaken
-unfolding readOf readAfter markedRead
+unfolding readBy readAfter markedRead
 read-keeps-marks s door setting =
-    chosen-keeps (λ c. c .overtaken) (eqb (readRefusal s door setting) 0) s door (withCell (sessionAt s door) setting (markedRead (cellAt (sessionAt s door) setting)))
+    chosen-keeps (λ c. c .overtaken) (eqb (readRefusal (wholeB s) s door setting) 0) s door (withCell (sessionAt s door) setting (markedRead (cellAt (sessionAt s door) setting)))
     (put-keeps (λ c. c .overtaken) (sessionAt s door) setting (markedRead (cellAt (sessionAt s door) setting)) refl)
 
 -- a read marks its setting, and takes no earlier "read" back
@@ -198,22 +199,22 @@ chosen-marked false s door setting k e = e
 
 pub read-keeps-read : (s : State) (door setting k : ℕ) → getD (sessionAt s door .cells) k blankCell .read ≡ true →
     getD (sessionAt (readOf s door setting .state) door .cells) k blankCell .read ≡ true
-unfolding readOf readAfter
-read-keeps-read s door setting = chosen-marked (eqb (readRefusal s door setting) 0) s door setting
+unfolding readBy readAfter
+read-keeps-read s door setting = chosen-marked (eqb (readRefusal (wholeB s) s door setting) 0) s door setting
 
-pub read-marks : (s : State) (door setting : ℕ) → length (sessionAt s door .cells) ≡ settingCount → readOf s door setting .number ≡ 0 →
+pub read-marks : (s : State) (door setting : ℕ) → length (sessionAt s door .cells) ≡ settingCount → readOf s door setting .reply .number ≡ 0 →
     cellAt (sessionAt (readOf s door setting .state) door) setting .read ≡ true
-unfolding readOf readAfter withCell cellAt markedRead
+unfolding readBy readAfter withCell cellAt markedRead
 read-marks s door setting e z =
     let inside : setting - 1 < length (sessionAt s door .cells) = omega (arith, read-accepted s door setting z .1) in
-    rw (eq-eqb (readRefusal s door setting) 0 z, with-mine s door (withCell (sessionAt s door) setting (markedRead (cellAt (sessionAt s door) setting))), getD-set-same (sessionAt s door .cells) (setting - 1) (markedRead (cellAt (sessionAt s door) setting)) blankCell inside)
+    rw (eq-eqb (readRefusal (wholeB s) s door setting) 0 z, with-mine s door (withCell (sessionAt s door) setting (markedRead (cellAt (sessionAt s door) setting))), getD-set-same (sessionAt s door .cells) (setting - 1) (markedRead (cellAt (sessionAt s door) setting)) blankCell inside)
 
 past-first : (b : Bool) (rest : ℕ) → 10 ≤ cond b 1 rest → b ≡ false
 past-first true rest h = absurd (omega arith)
 past-first false rest h = refl
 
 -- a commit that ends its session without putting anything in force was tried on a whole state
-pub ended-knows : (s : State) (door n : ℕ) → 10 ≤ commitRefusal s door n → wholeB s ≡ true
+pub ended-knows : (s : State) (door n : ℕ) → 10 ≤ commitRefusal (wholeB s) s door n → wholeB s ≡ true
 unfolding commitRefusal
 ended-knows s door n h = and-left (wholeB s) (eqb n auditLines) (not-false (wholeB s && eqb n auditLines) (past-first (not (wholeB s && eqb n auditLines)) _ h))
 
@@ -221,6 +222,6 @@ ended-knows s door n h = and-left (wholeB s) (eqb n auditLines) (not-false (whol
 
 -- a line that is given is line i of those held, newest first
 pub audit-line-held : (s : State) (i : ℕ) (audit : List AuditLine) → auditLineOf s i audit .number ≡ 0
-    → auditLineOf s i audit .line ≡ getD (heldLines auditLines noAudit (s .core .audit .ring) audit) i noAudit
-unfolding auditLineOf auditAnswered
-audit-line-held s i audit e = rw e (line-read noAudit s auditLines (length audit) (s .core .audit .ring) i audit e)
+    → auditLineOf s i audit .given ≡ given.Audit (getD (heldLines auditLines noAudit (s .core .audit .ring) audit) i noAudit)
+unfolding auditLineBy
+audit-line-held s i audit e = rw (e, line-read noAudit (wholeB s) auditLines (length audit) (s .core .audit .ring) i audit e)

@@ -1,8 +1,9 @@
 -- Laws of the doors.
-pub mod Rows
-pub mod Kept
-pub mod Types
-pub mod Force
-pub mod Stays
-pub mod Laws
 pub mod Apart
+pub mod Fixed
+pub mod Force
+pub mod Kept
+pub mod Laws
+pub mod Rows
+pub mod Stays
+pub mod Types

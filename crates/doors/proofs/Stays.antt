@@ -24,8 +24,8 @@ use Rattle.state.specs.declared.State.{State}
 use Rattle.state.specs.State.{blankCell, noSession, cellB, cellsB, sessionB, coreB, wholeB}
 use Rattle.state.proofs.Card.{Passes, passes, not-false}
 use Rattle.state.proofs.Sound.{SoundCore, sound-core, Sound, whole-sound, no-session}
-use Rattle.asked.specs.Asked.{answered}
-use Rattle.doors.specs.Doors.{noDoor, noSuchSetting, sessionAt, otherAt, placed, withSession, cellAt, withCell, begun, beginRefusal, beginOf, abandonRefusal, abandonOf, readRefusal, markedRead, readAfter, readOf, writeRefusal, stagedCell, writeAfter, writeOf, lockMissing, staleB, asStand, commitRefusal, commitLines, markedBy, overtakenSession, committedCore, committed, refusedCommit, commitOf}
+use Rattle.commands.specs.Answers.{answered}
+use Rattle.doors.specs.Doors.{noDoor, noSuchSetting, sessionAt, otherAt, placed, withSession, cellAt, withCell, begun, beginRefusal, beginBy, beginOf, abandonRefusal, abandonBy, abandonOf, readRefusal, markedRead, readAfter, readBy, readOf, writeRefusal, stagedCell, writeAfter, writeBy, writeOf, lockMissing, staleB, asStand, commitRefusal, commitLines, markedBy, overtakenSession, committedCore, committed, refusedCommit, commitOf}
 use Rattle.doors.proofs.Force.{stand-fits, marks-at}
 
 -- ---- a cell of a session
@@ -146,7 +146,7 @@ pub record Accepted (s : State) (door : ℕ) : Type 0 where
 place-inside : (setting : ℕ) → noSuchSetting setting ≡ false → setting - 1 < settingCount
 place-inside setting e = omega (arith, ltb-false settingCount setting (or-false-right (ltb setting 1) (ltb settingCount setting) e))
 
-pub read-accepted : (s : State) (door setting : ℕ) → readRefusal s door setting ≡ 0 → Accepted s door × (setting - 1 < settingCount)
+pub read-accepted : (s : State) (door setting : ℕ) → readRefusal (wholeB s) s door setting ≡ 0 → Accepted s door × (setting - 1 < settingCount)
 unfolding readRefusal
 read-accepted s door setting e =
     let a : Passes (not (wholeB s)) (cond (noDoor door || noSuchSetting setting) 3 (cond (not (sessionAt s door .live)) 4 0)) = passes 1 _ _ (omega arith) e in
@@ -160,7 +160,7 @@ read-accepted s door setting e =
       place-inside setting (or-false-right (noDoor door) (noSuchSetting setting) (b .here)),
     )
 
-pub write-accepted : (s : State) (door setting : ℕ) (v : Value) → writeRefusal s door setting v ≡ 0 →
+pub write-accepted : (s : State) (door setting : ℕ) (v : Value) → writeRefusal (wholeB s) s door setting v ≡ 0 →
     Accepted s door × (setting - 1 < settingCount) × (fitsB (setting - 1) v ≡ true)
 unfolding writeRefusal
 write-accepted s door setting v e =
@@ -185,7 +185,7 @@ pub record AcceptedCommit (s : State) (door auditLength : ℕ) : Type 0 where
   pub current : staleB (sessionAt s door .cells) ≡ false
   pub ordered : orderedB (asStand (s .core .settings) (sessionAt s door .cells)) ≡ true
 
-pub commit-accepted : (s : State) (door n : ℕ) → commitRefusal s door n ≡ 0 → AcceptedCommit s door n
+pub commit-accepted : (s : State) (door n : ℕ) → commitRefusal (wholeB s) s door n ≡ 0 → AcceptedCommit s door n
 unfolding commitRefusal
 commit-accepted s door n e =
     let lock : Bool = lockMissing (s .core .locks) (sessionAt s door .cells) in
@@ -213,14 +213,14 @@ commit-accepted s door n e =
 -- ---- begin, abandon, read, write
 
 pub begin-whole : (s : State) (door : ℕ) → wholeB s ≡ true → wholeB (beginOf s door .state) ≡ true
-unfolding beginOf
-begin-whole s door e = answered-whole (beginRefusal s door) s (withSession s door begun) e (λ z. with-session-whole s door begun e begun-sound)
+unfolding beginBy
+begin-whole s door e = answered-whole (beginRefusal (wholeB s) s door) s (withSession s door begun) e (λ z. with-session-whole s door begun e begun-sound)
 
 pub abandon-whole : (s : State) (door : ℕ) → wholeB s ≡ true → wholeB (abandonOf s door .state) ≡ true
-unfolding abandonOf
-abandon-whole s door e = answered-whole (abandonRefusal s door) s (withSession s door noSession) e (λ z. with-session-whole s door noSession e no-session)
+unfolding abandonBy
+abandon-whole s door e = answered-whole (abandonRefusal (wholeB s) s door) s (withSession s door noSession) e (λ z. with-session-whole s door noSession e no-session)
 
-pub read-after-whole : (s : State) (door setting : ℕ) → readRefusal s door setting ≡ 0 → wholeB (readAfter s door setting) ≡ true
+pub read-after-whole : (s : State) (door setting : ℕ) → readRefusal (wholeB s) s door setting ≡ 0 → wholeB (readAfter s door setting) ≡ true
 unfolding readAfter cellAt
 read-after-whole s door setting z =
     let a : Accepted s door = read-accepted s door setting z .0 in
@@ -231,10 +231,10 @@ read-after-whole s door setting z =
     p)
 
 pub read-whole : (s : State) (door setting : ℕ) → wholeB s ≡ true → wholeB (readOf s door setting .state) ≡ true
-unfolding readOf
-read-whole s door setting e = answered-whole (readRefusal s door setting) s (readAfter s door setting) e (read-after-whole s door setting)
+unfolding readBy
+read-whole s door setting e = answered-whole (readRefusal (wholeB s) s door setting) s (readAfter s door setting) e (read-after-whole s door setting)
 
-pub write-after-whole : (s : State) (door setting : ℕ) (v : Value) → writeRefusal s door setting v ≡ 0 → wholeB (writeAfter s door setting v) ≡ true
+pub write-after-whole : (s : State) (door setting : ℕ) (v : Value) → writeRefusal (wholeB s) s door setting v ≡ 0 → wholeB (writeAfter s door setting v) ≡ true
 unfolding writeAfter cellAt
 write-after-whole s door setting v z =
     let a : Accepted s door = write-accepted s door setting v z .0 in
@@ -246,8 +246,8 @@ write-after-whole s door setting v z =
     p)
 
 pub write-whole : (s : State) (door setting : ℕ) (v : Value) → wholeB s ≡ true → wholeB (writeOf s door setting v .state) ≡ true
-unfolding writeOf
-write-whole s door setting v e = answered-whole (writeRefusal s door setting v) s (writeAfter s door setting v) e (write-after-whole s door setting v)
+unfolding writeBy
+write-whole s door setting v e = answered-whole (writeRefusal (wholeB s) s door setting v) s (writeAfter s door setting v) e (write-after-whole s door setting v)
 
 -- ---- commit
 
@@ -261,18 +261,16 @@ core-stays s door n lines a =
     let p : SoundCore (s .core) = whole-sound s (a .step .whole) .core in
     let q : sessionB (sessionAt s door) ≡ true = session-sound s door (a .step .whole) in
     record {
-      in-time = p .in-time;
+      measured = p .measured;
       fit = stand-fits (s .core .settings) (sessionAt s door .cells) (p .fit) (λ k l t. staged-fit (getD (sessionAt s door .cells) k blankCell .staged) (fitsB k (getD (sessionAt s door .cells) k blankCell .value)) (session-each (sessionAt s door) q k l .fit) t);
       ordered = a .ordered;
-      counted = p .counted;
       latched = p .latched;
-      in-month = p .in-month;
       archive-held = p .archive-held;
       log-held = p .log-held;
       audit-held = book-stays audit-common lines (s .core .audit) (p .audit-held);
     }
 
-pub committed-whole : (s : State) (door n : ℕ) → commitRefusal s door n ≡ 0 → wholeB (committed s door) ≡ true
+pub committed-whole : (s : State) (door n : ℕ) → commitRefusal (wholeB s) s door n ≡ 0 → wholeB (committed s door) ≡ true
 unfolding committed
 committed-whole s door n z =
     let a : AcceptedCommit s door n = commit-accepted s door n z in
@@ -285,11 +283,11 @@ refused-whole : (s : State) (door number : ℕ) → wholeB s ≡ true → wholeB
 unfolding refusedCommit
 refused-whole s door number e = chosen-whole (leb 10 number) s (withSession s door noSession) e (λ t. with-session-whole s door noSession e no-session)
 
-commit-by : (s : State) (door : ℕ) (audit : List AuditLine) → wholeB s ≡ true → Either (eqb (commitRefusal s door (length audit)) 0) →
+commit-by : (s : State) (door : ℕ) (audit : List AuditLine) → wholeB s ≡ true → Either (eqb (commitRefusal (wholeB s) s door (length audit)) 0) →
     wholeB (commitOf s door audit .answer .state) ≡ true
 unfolding commitOf
-commit-by s door audit e (is-true t) = rw t (committed-whole s door (length audit) (eqb-true (commitRefusal s door (length audit)) 0 t))
-commit-by s door audit e (is-false f) = rw f (refused-whole s door (commitRefusal s door (length audit)) e)
+commit-by s door audit e (is-true t) = rw t (committed-whole s door (length audit) (eqb-true (commitRefusal (wholeB s) s door (length audit)) 0 t))
+commit-by s door audit e (is-false f) = rw f (refused-whole s door (commitRefusal (wholeB s) s door (length audit)) e)
 
 pub commit-whole : (s : State) (door : ℕ) (audit : List AuditLine) → wholeB s ≡ true → wholeB (commitOf s door audit .answer .state) ≡ true
-commit-whole s door audit e = commit-by s door audit e (either-of (eqb (commitRefusal s door (length audit)) 0))
+commit-whole s door audit e = commit-by s door audit e (either-of (eqb (commitRefusal (wholeB s) s door (length audit)) 0))

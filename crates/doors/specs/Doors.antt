@@ -4,11 +4,9 @@ use Prim.Native.Nat.{ℕ, zero, suc, _+_, _-_}
 use mathlib.Core.Bool.{Bool, true, not, cond, _&&_, _||_}
 use mathlib.Core.List.{List, [], _∷_, _++_}
 use lib.ListN.{length, getD, set, replicate}
-use lib.IntN.{pos}
 use lib.Dec.{ltb, leb, eqb}
 use Rattle.ground.specs.Below.{anyBelow}
 use Rattle.settings.specs.declared.Value.{Value}
-use Rattle.settings.specs.declared.Value.the-variants.{Whole}
 use Rattle.settings.specs.declared.Setting.{Setting}
 use Rattle.settings.specs.Settings.{settingCount, noSetting, fitsB, orderedB, rightB}
 use Rattle.ring.specs.declared.Book.{Book}
@@ -20,14 +18,15 @@ use Rattle.state.specs.declared.Cell.{Cell}
 use Rattle.state.specs.declared.Session.{Session}
 use Rattle.state.specs.declared.Core.{Core}
 use Rattle.state.specs.declared.State.{State}
-use Rattle.state.specs.declared.Answer.{Answer}
 use Rattle.state.specs.State.{blankCell, noSession, wholeB}
 use Rattle.state.specs.Card.{firstOf}
 use Rattle.ring.specs.Store.{written}
 use Rattle.notes.specs.Notes.{keep}
-use Rattle.asked.specs.Asked.{answered, slotOf, lineRefusal}
-use Rattle.doors.specs.declared.ReadAnswer.{ReadAnswer}
-use Rattle.doors.specs.declared.AuditAnswer.{AuditAnswer}
+use Rattle.commands.specs.declared.Given.the-variants as given
+use Rattle.commands.specs.declared.Reply.{Reply}
+use Rattle.commands.specs.declared.Answer.{Answer}
+use Rattle.commands.specs.Answers.{plain, giving, answered, Outcome, withAudit}
+use Rattle.asked.specs.Asked.{isHeld, slotOf, lineRefusal}
 
 -- ---- the doors: 1 the keypad, 2 the optical port
 
@@ -57,28 +56,34 @@ cellAt x setting = getD (x .cells) (setting - 1) blankCell
 unfoldable pub withCell : Session → ℕ → Cell → Session
 withCell x setting c = record { live = x .live; cells = set (x .cells) (setting - 1) c }
 
--- ---- begin, abandon
+-- ---- begin, abandon; here and below, `sound` says whether the state is whole
 
 -- a session as it begins: nothing staged, nothing read
 unfoldable pub begun : Session
 begun = record { live = true; cells = replicate settingCount blankCell }
 
-unfoldable pub beginRefusal : State → ℕ → ℕ
-beginRefusal s door = firstOf ((1, not (wholeB s)) ∷ (3, noDoor door) ∷ (2, sessionAt s door .live) ∷ [])
+unfoldable pub beginRefusal : Bool → State → ℕ → ℕ
+beginRefusal sound s door = firstOf ((1, not sound) ∷ (3, noDoor door) ∷ (2, sessionAt s door .live) ∷ [])
 
-unfoldable pub beginOf : State → ℕ → Answer
-beginOf s door = answered (beginRefusal s door) s (withSession s door begun)
+unfoldable pub beginBy : Bool → State → ℕ → Answer
+beginBy sound s door = answered (beginRefusal sound s door) s (withSession s door begun)
 
-unfoldable pub abandonRefusal : State → ℕ → ℕ
-abandonRefusal s door = firstOf ((1, not (wholeB s)) ∷ (3, noDoor door) ∷ (4, not (sessionAt s door .live)) ∷ [])
+abbrev pub beginOf : State → ℕ → Answer
+beginOf s door = beginBy (wholeB s) s door
 
-unfoldable pub abandonOf : State → ℕ → Answer
-abandonOf s door = answered (abandonRefusal s door) s (withSession s door noSession)
+unfoldable pub abandonRefusal : Bool → State → ℕ → ℕ
+abandonRefusal sound s door = firstOf ((1, not sound) ∷ (3, noDoor door) ∷ (4, not (sessionAt s door .live)) ∷ [])
+
+unfoldable pub abandonBy : Bool → State → ℕ → Answer
+abandonBy sound s door = answered (abandonRefusal sound s door) s (withSession s door noSession)
+
+abbrev pub abandonOf : State → ℕ → Answer
+abandonOf s door = abandonBy (wholeB s) s door
 
 -- ---- read
 
-unfoldable pub readRefusal : State → ℕ → ℕ → ℕ
-readRefusal s door setting = firstOf ((1, not (wholeB s)) ∷ (3, noDoor door || noSuchSetting setting) ∷ (4, not (sessionAt s door .live)) ∷ [])
+unfoldable pub readRefusal : Bool → State → ℕ → ℕ → ℕ
+readRefusal sound s door setting = firstOf ((1, not sound) ∷ (3, noDoor door || noSuchSetting setting) ∷ (4, not (sessionAt s door .live)) ∷ [])
 
 -- the session's own staged value if it has one, else the value in force
 unfoldable pub valueRead : State → ℕ → ℕ → Value
@@ -94,20 +99,19 @@ unfoldable pub readAfter : State → ℕ → ℕ → State
 readAfter s door setting =
     withSession s door (withCell (sessionAt s door) setting (markedRead (cellAt (sessionAt s door) setting)))
 
-unfoldable pub readOf : State → ℕ → ℕ → ReadAnswer
-readOf s door setting =
-    let number = readRefusal s door setting in
-    record {
-      number = number;
-      value = cond (eqb number 0) (valueRead s door setting) (Whole (pos 0));
-      state = cond (eqb number 0) (readAfter s door setting) s;
-    }
+unfoldable pub readBy : Bool → State → ℕ → ℕ → Answer
+readBy sound s door setting =
+    let number = readRefusal sound s door setting in
+    record { reply = giving number (given.Value (valueRead s door setting)); state = cond (eqb number 0) (readAfter s door setting) s }
+
+abbrev pub readOf : State → ℕ → ℕ → Answer
+readOf s door setting = readBy (wholeB s) s door setting
 
 -- ---- write
 
-unfoldable pub writeRefusal : State → ℕ → ℕ → Value → ℕ
-writeRefusal s door setting v = firstOf (
-    (1, not (wholeB s))
+unfoldable pub writeRefusal : Bool → State → ℕ → ℕ → Value → ℕ
+writeRefusal sound s door setting v = firstOf (
+    (1, not sound)
     ∷ (3, noDoor door || noSuchSetting setting)
     ∷ (4, not (sessionAt s door .live))
     ∷ (9, not (fitsB (setting - 1) v))
@@ -121,8 +125,11 @@ unfoldable pub writeAfter : State → ℕ → ℕ → Value → State
 writeAfter s door setting v =
     withSession s door (withCell (sessionAt s door) setting (stagedCell (cellAt (sessionAt s door) setting) v))
 
-unfoldable pub writeOf : State → ℕ → ℕ → Value → Answer
-writeOf s door setting v = answered (writeRefusal s door setting v) s (writeAfter s door setting v)
+unfoldable pub writeBy : Bool → State → ℕ → ℕ → Value → Answer
+writeBy sound s door setting v = answered (writeRefusal sound s door setting v) s (writeAfter s door setting v)
+
+abbrev pub writeOf : State → ℕ → ℕ → Value → Answer
+writeOf s door setting v = writeBy (wholeB s) s door setting v
 
 -- ---- commit
 
@@ -149,9 +156,9 @@ asStand [] cells = []
 asStand (x ∷ a) [] = x ∷ a
 asStand (x ∷ a) (c ∷ cells) = standsAt x c ∷ asStand a cells
 
-unfoldable pub commitRefusal : State → ℕ → ℕ → ℕ
-commitRefusal s door auditLength = firstOf (
-    (1, not (wholeB s && eqb auditLength auditLines))
+unfoldable pub commitRefusal : Bool → State → ℕ → ℕ → ℕ
+commitRefusal sound s door auditLength = firstOf (
+    (1, not (sound && eqb auditLength auditLines))
     ∷ (3, noDoor door)
     ∷ (4, not (sessionAt s door .live))
     ∷ (10, lockMissing (s .core .locks) (sessionAt s door .cells))
@@ -173,7 +180,7 @@ auditOf b time door a cells (suc k) =
 
 -- the lines of a commit at a door; the time is that of the last accepted cycle
 unfoldable pub commitLines : State → ℕ → List AuditLine
-commitLines s door = auditOf (s .core .audit) (s .core .time) door (s .core .settings) (sessionAt s door .cells) settingCount
+commitLines s door = auditOf (s .core .audit) (s .core .measured .time) door (s .core .settings) (sessionAt s door .cells) settingCount
 
 -- the other door's session is marked where it had read a setting that is now put in force
 unfoldable pub markedBy : Cell → Cell → Cell
@@ -189,10 +196,7 @@ overtakenSession mine theirs = record { live = theirs .live; cells = overtakenBy
 
 unfoldable pub committedCore : Core → List Cell → ℕ → Core
 committedCore c cells lines = record {
-  time = c .time;
-  month = c .month;
-  counters = c .counters;
-  alarms = c .alarms;
+  measured = c .measured;
   latches = c .latches;
   locks = c .locks;
   settings = asStand (c .settings) cells;
@@ -207,31 +211,23 @@ committed s door =
     placed (committedCore (s .core) (sessionAt s door .cells) (length (commitLines s door))) door noSession
     (overtakenSession (sessionAt s door) (otherAt s door))
 
--- an answer with the audit trail
-pub record Audited : Type 0 where
-  pub answer : Answer
-  pub audit : List AuditLine
-
 -- refused by 10, 11 or 12 it ends the session and changes nothing else; any other refusal changes nothing at all
 unfoldable pub refusedCommit : State → ℕ → ℕ → State
 refusedCommit s door number = cond (leb 10 number) (withSession s door noSession) s
 
-unfoldable pub commitOf : State → ℕ → List AuditLine → Audited
+unfoldable pub commitOf : State → ℕ → List AuditLine → Outcome
 commitOf s door audit =
-    let number = commitRefusal s door (length audit) in
+    let number = commitRefusal (wholeB s) s door (length audit) in
     cond (eqb number 0)
-    (record {
-      answer = record { number = 0; state = committed s door };
-      audit = written auditLines (s .core .audit .ring) audit (commitLines s door);
-    })
-    (record { answer = record { number = number; state = refusedCommit s door number }; audit = audit })
+    (withAudit (record { reply = plain 0; state = committed s door }) (written auditLines (s .core .audit .ring) audit (commitLines s door)))
+    (withAudit (record { reply = plain number; state = refusedCommit s door number }) audit)
 
 -- ---- a line of the audit trail
 
-unfoldable pub auditAnswered : ℕ → AuditLine → AuditAnswer
-auditAnswered number line = record { number = number; line = cond (eqb number 0) line noAudit }
+unfoldable pub auditLineBy : Bool → State → ℕ → List AuditLine → Reply
+auditLineBy sound s i audit =
+    let place = placeOf auditLines (s .core .audit .ring) i in
+    giving (lineRefusal sound auditLines (length audit) (isHeld place)) (given.Audit (getD audit (slotOf place) noAudit))
 
-unfoldable pub auditLineOf : State → ℕ → List AuditLine → AuditAnswer
-auditLineOf s i audit =
-    auditAnswered (lineRefusal s auditLines (length audit) (s .core .audit .ring) i)
-    (getD audit (slotOf (placeOf auditLines (s .core .audit .ring) i)) noAudit)
+abbrev pub auditLineOf : State → ℕ → List AuditLine → Reply
+auditLineOf s i audit = auditLineBy (wholeB s) s i audit

@@ -11,12 +11,12 @@ use borrow.Author.Tests.{ltb-true, ltb-false}
 use lib.ListN.{length, take, drop, set, replicate, length-append, length-map, length-drop, length-take, drop-of-length-le}
 use lib.Seq.{take-add, drop-drop, take-all, set-at, length-take-le}
 use Rattle.text.specs.Words.{firstOf}
-use Rattle.text.specs.declared.commands.Command.{Command}
-use Rattle.text.specs.Commands.{commandOf}
-use Rattle.desk.specs.declared.Order.{Order}
-use Rattle.desk.specs.Desk.{block, noOrder}
-use Rattle.lines.specs.declared.Orders.{Orders}
-use Rattle.lines.specs.Lines.{lineFeed, inFront, wholeLines, bytesOf, orderOf, inBlock, ordersOf, ordersIn}
+use Rattle.commands.specs.declared.Entry.{Entry}
+use Rattle.text.specs.Entries.{entryOf}
+use Rattle.desk.specs.declared.Input.{Input}
+use Rattle.desk.specs.Desk.{block, noInput}
+use Rattle.lines.specs.declared.Inputs.{Inputs}
+use Rattle.lines.specs.Lines.{lineFeed, inFront, wholeLines, bytesOf, inputOf, inBlock, inputsOf, inputsIn}
 
 -- ---- the first line feed
 
@@ -71,9 +71,14 @@ bytes-taken (suc k) [] = zero-le
 bytes-taken (suc k) (l ∷ ls) = omega (arith, bytes-taken k ls)
 
 -- what was taken lies within the input
-pub orders-within : (input : List ℕ) (r : Orders) → r ≡ ordersIn input → r .at ≤ length input
-unfolding ordersIn ordersOf
-orders-within input r e = rw e (le-trans (bytes-taken block (wholeLines input)) (bytes-within input))
+pub inputs-within : (input : List ℕ) (r : Inputs) → r ≡ inputsIn input → r .at ≤ length input
+unfolding inputsIn inputsOf
+inputs-within input r e = rw e (le-trans (bytes-taken block (wholeLines input)) (bytes-within input))
+
+-- and is a block at most
+pub few-inputs : (input : List ℕ) → inputsIn input .count ≤ block
+unfolding inputsIn inputsOf
+few-inputs input = omega (arith, length-take block (wholeLines input))
 
 -- ---- what is left
 
@@ -98,13 +103,13 @@ others (suc k) l = by-test (ltb (firstOf lineFeed l) (length l)) refl (others k 
         rw (cut-first l h) (ap wholeLines on ∙ known)
     by-test false e known = let none : wholeLines l ≡ [] = no-line l (ltb-false (firstOf lineFeed l) (length l) e) in rw none none
 
-pub others-left : (input : List ℕ) → wholeLines (drop (ordersIn input .at) input) ≡ drop block (wholeLines input)
-unfolding ordersIn ordersOf
+pub others-left : (input : List ℕ) → wholeLines (drop (inputsIn input .at) input) ≡ drop block (wholeLines input)
+unfolding inputsIn inputsOf
 others-left input = others block input
 
 -- none, unless the block is full
-pub none-left : (input : List ℕ) → ordersIn input .count < block → wholeLines (drop (ordersIn input .at) input) ≡ []
-unfolding ordersIn ordersOf
+pub none-left : (input : List ℕ) → inputsIn input .count < block → wholeLines (drop (inputsIn input .at) input) ≡ []
+unfolding inputsIn inputsOf
 none-left input h =
     let w = wholeLines input in
     let few : length w ≤ block = omega (arith, length-take block w) in
@@ -113,39 +118,39 @@ none-left input h =
 -- ---- the loop after some turns
 
 -- the first lines were taken, and n bytes stand before the next line feed
-pub record Taken (input : List ℕ) (orders : List Order) (count at n : ℕ) : Type 0 where
+pub record Taken (input : List ℕ) (inputs : List Input) (count at n : ℕ) : Type 0 where
   pub few : count ≤ block
   pub found : length (take count (wholeLines input)) ≡ count
-  pub filled : orders ≡ inBlock (take count (wholeLines input))
+  pub filled : inputs ≡ inBlock (take count (wholeLines input))
   pub bytes : at ≡ bytesOf (take count (wholeLines input))
   pub within : at ≤ length input
   pub next : n ≡ firstOf lineFeed (drop at input)
 
-pub none-taken : (input : List ℕ) (blank : Order) (n : ℕ) → blank ≡ noOrder → n ≡ firstOf lineFeed input → Taken input (replicate block blank) 0 0 n
+pub none-taken : (input : List ℕ) (blank : Input) (n : ℕ) → blank ≡ noInput → n ≡ firstOf lineFeed input → Taken input (replicate block blank) 0 0 n
 unfolding inBlock bytesOf
 none-taken input blank n e f = record { few = zero-le; found = refl; filled = ap (replicate block) e; bytes = refl; within = zero-le; next = f }
 
-left-of : {input : List ℕ} {orders : List Order} {count at n : ℕ} → Taken input orders count at n → wholeLines (drop at input) ≡ drop count (wholeLines input)
-left-of {input} {orders} {count} t = ap (λ (a : ℕ). wholeLines (drop a input)) (t .bytes) ∙ others count input
+left-of : {input : List ℕ} {inputs : List Input} {count at n : ℕ} → Taken input inputs count at n → wholeLines (drop at input) ≡ drop count (wholeLines input)
+left-of {input} {inputs} {count} t = ap (λ (a : ℕ). wholeLines (drop a input)) (t .bytes) ∙ others count input
 
--- one command more takes the place of a blank one
-one-more : (ls : List (List ℕ)) (line : List ℕ) (k : ℕ) → length ls ≡ k → k < block → set (inBlock ls) k (orderOf line) ≡ inBlock (ls ++ (line ∷ []))
+-- one entry more takes the place of a blank one
+one-more : (ls : List (List ℕ)) (line : List ℕ) (k : ℕ) → length ls ≡ k → k < block → set (inBlock ls) k (inputOf line) ≡ inBlock (ls ++ (line ∷ []))
 unfolding inBlock
 one-more ls line k e h =
     let m = block - suc k in
     let blank : block - length ls ≡ suc m = omega arith in
     let fewer : block - length (ls ++ (line ∷ [])) ≡ m = omega (arith, length-append ls (line ∷ [])) in
-    ap (λ (j : ℕ). set (map orderOf ls ++ replicate j noOrder) k (orderOf line)) blank
-    ∙ set-at (map orderOf ls) noOrder (replicate m noOrder) (orderOf line) k (length-map ls orderOf ∙ e)
-    ∙ sym (append-assoc (map orderOf ls) (orderOf line ∷ []) (replicate m noOrder))
-    ∙ ap (λ (os : List Order). os ++ replicate m noOrder) (sym (map-append orderOf ls (line ∷ [])))
-    ∙ ap (λ (j : ℕ). map orderOf (ls ++ (line ∷ [])) ++ replicate j noOrder) (sym fewer)
+    ap (λ (j : ℕ). set (map inputOf ls ++ replicate j noInput) k (inputOf line)) blank
+    ∙ set-at (map inputOf ls) noInput (replicate m noInput) (inputOf line) k (length-map ls inputOf ∙ e)
+    ∙ sym (append-assoc (map inputOf ls) (inputOf line ∷ []) (replicate m noInput))
+    ∙ ap (λ (os : List Input). os ++ replicate m noInput) (sym (map-append inputOf ls (line ∷ [])))
+    ∙ ap (λ (j : ℕ). map inputOf (ls ++ (line ∷ [])) ++ replicate j noInput) (sym fewer)
 
-pub line-more : (input : List ℕ) (orders : List Order) (count at n : ℕ) → Taken input orders count at n → n < length input - at → count < block
-    → (c : Command) → c ≡ commandOf (take n (drop at input)) → (m : ℕ) → m ≡ firstOf lineFeed (drop (at + n + 1) input)
-    → Taken input (set orders count (record { command = c })) (count + 1) (at + n + 1) m
+pub line-more : (input : List ℕ) (inputs : List Input) (count at n : ℕ) → Taken input inputs count at n → n < length input - at → count < block
+    → (c : Entry) → c ≡ entryOf (take n (drop at input)) → (m : ℕ) → m ≡ firstOf lineFeed (drop (at + n + 1) input)
+    → Taken input (set inputs count (record { entry = c })) (count + 1) (at + n + 1) m
 unfolding bytesOf
-line-more input orders count at n t h q c f m e =
+line-more input inputs count at n t h q c f m e =
     let w = wholeLines input in
     let rest = drop at input in
     let line = take n rest in
@@ -159,8 +164,8 @@ line-more input orders count at n t h q c f m e =
       few = omega arith;
       found = ap length taken ∙ length-append (take count w) (line ∷ []) ∙ ap (λ (k : ℕ). k + 1) (t .found);
       filled =
-          ap (λ (x : Command). set orders count (record { command = x })) f
-          ∙ ap (λ (os : List Order). set os count (orderOf line)) (t .filled)
+          ap (λ (x : Entry). set inputs count (record { entry = x })) f
+          ∙ ap (λ (os : List Input). set os count (inputOf line)) (t .filled)
           ∙ one-more (take count w) line count (t .found) q
           ∙ ap inBlock (sym taken);
       bytes = omega (arith, ap bytesOf taken, bytes-both (take count w) (line ∷ []), t .bytes);
@@ -168,33 +173,33 @@ line-more input orders count at n t h q c f m e =
       next = e;
     }
 
--- the orders of the lines taken are those of the input, where these lines are the block's
-taken-whole : (input : List ℕ) (orders : List Order) (count at n : ℕ) → Taken input orders count at n → take count (wholeLines input) ≡ take block (wholeLines input)
-    → record { count = count; orders = orders; at = at } ≡ ordersIn input
-unfolding ordersIn ordersOf
-taken-whole input orders count at n t e =
-    ap (λ (k : ℕ). made k orders at) (sym (t .found))
-    ∙ ap (λ (os : List Order). made (length ls) os at) (t .filled)
+-- the inputs of the lines taken are those of the input, where these lines are the block's
+taken-whole : (input : List ℕ) (inputs : List Input) (count at n : ℕ) → Taken input inputs count at n → take count (wholeLines input) ≡ take block (wholeLines input)
+    → record { count = count; inputs = inputs; at = at } ≡ inputsIn input
+unfolding inputsIn inputsOf
+taken-whole input inputs count at n t e =
+    ap (λ (k : ℕ). made k inputs at) (sym (t .found))
+    ∙ ap (λ (os : List Input). made (length ls) os at) (t .filled)
     ∙ ap (λ (a : ℕ). made (length ls) (inBlock ls) a) (t .bytes)
     ∙ ap (λ (x : List (List ℕ)). made (length x) (inBlock x) (bytesOf x)) e
   where
     ls : List (List ℕ)
     ls = take count (wholeLines input)
 
-    made : ℕ → List Order → ℕ → Orders
-    made k os a = record { count = k; orders = os; at = a }
+    made : ℕ → List Input → ℕ → Inputs
+    made k os a = record { count = k; inputs = os; at = a }
 
 -- no whole line is left
-pub no-more : (input : List ℕ) (orders : List Order) (count at n : ℕ) → Taken input orders count at n → length input - at ≤ n
-    → record { count = count; orders = orders; at = at } ≡ ordersIn input
-no-more input orders count at n t h =
+pub no-more : (input : List ℕ) (inputs : List Input) (count at n : ℕ) → Taken input inputs count at n → length input - at ≤ n
+    → record { count = count; inputs = inputs; at = at } ≡ inputsIn input
+no-more input inputs count at n t h =
     let w = wholeLines input in
     let last : length (drop at input) ≤ firstOf lineFeed (drop at input) = subst (λ (k : ℕ). length (drop at input) ≤ k) (t .next) (omega (arith, length-drop at input)) in
     let none : drop count w ≡ [] = sym (left-of t) ∙ no-line (drop at input) last in
     let few : length w ≤ count = omega (arith, length-drop count w, ap length none) in
-    taken-whole input orders count at n t (take-all count w few ∙ sym (take-all block w (omega (arith, t .few))))
+    taken-whole input inputs count at n t (take-all count w few ∙ sym (take-all block w (omega (arith, t .few))))
 
 -- the block is full
-pub full : (input : List ℕ) (orders : List Order) (count at n : ℕ) → Taken input orders count at n → count ≡ block
-    → record { count = count; orders = orders; at = at } ≡ ordersIn input
-full input orders count at n t e = taken-whole input orders count at n t (ap (λ (k : ℕ). take k (wholeLines input)) e)
+pub full : (input : List ℕ) (inputs : List Input) (count at n : ℕ) → Taken input inputs count at n → count ≡ block
+    → record { count = count; inputs = inputs; at = at } ≡ inputsIn input
+full input inputs count at n t e = taken-whole input inputs count at n t (ap (λ (k : ℕ). take k (wholeLines input)) e)

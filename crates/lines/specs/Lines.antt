@@ -1,17 +1,20 @@
--- Lines by the block: the commands of the whole lines of an input, and the lines of a block's replies.
+-- Lines by the block: the entries of the whole lines of an input, what a desk says to them, and the lines of that.
 -- Assumes nothing.
-use Prim.Native.Nat.{ℕ, _+_, _-_, _*_, min}
+use Prim.Native.Nat.{ℕ, _+_, _-_, _*_}
 use mathlib.Core.Path.{_≡_}
 use mathlib.Core.Bool.{cond}
 use mathlib.Core.List.{List, [], _∷_, _++_, map}
 use lib.Dec.{eqb, ltb}
 use lib.ListN.{length, take, drop, replicate}
-use Rattle.text.specs.Commands.{commandOf}
-use Rattle.text.specs.Replies.{replyText, enough}
-use Rattle.desk.specs.declared.Order.{Order}
-use Rattle.desk.specs.declared.Said.{Said}
-use Rattle.desk.specs.Desk.{block, noOrder}
-use Rattle.lines.specs.declared.Orders.{Orders}
+use Rattle.text.specs.Entries.{entryOf}
+use Rattle.text.specs.Echoes.{echoText, enough}
+use Rattle.desk.specs.declared.Desk.{Desk}
+use Rattle.desk.specs.declared.Input.{Input}
+use Rattle.desk.specs.declared.Output.{Output}
+use Rattle.desk.specs.declared.Served.{Served}
+use Rattle.desk.specs.Desk.{block, noInput, served}
+use Rattle.lines.specs.declared.Inputs.{Inputs}
+use Rattle.lines.specs.declared.Answers.{Answers}
 
 -- ---- the whole lines of an input
 
@@ -33,37 +36,52 @@ unfoldable pub bytesOf : List (List ℕ) → ℕ
 bytesOf [] = 0
 bytesOf (line ∷ lines) = length line + 1 + bytesOf lines
 
--- ---- their commands
+-- ---- their entries
 
-abbrev pub orderOf : List ℕ → Order
-orderOf line = record { command = commandOf line }
+abbrev pub inputOf : List ℕ → Input
+inputOf line = record { entry = entryOf line }
 
--- the commands in order, and blank ones up to a block
-unfoldable pub inBlock : List (List ℕ) → List Order
-inBlock lines = map orderOf lines ++ replicate (block - length lines) noOrder
+-- the entries in order, and blank ones up to a block
+unfoldable pub inBlock : List (List ℕ) → List Input
+inBlock lines = map inputOf lines ++ replicate (block - length lines) noInput
 
-unfoldable pub ordersOf : List (List ℕ) → Orders
-ordersOf lines = record { count = length lines; orders = inBlock lines; at = bytesOf lines }
+unfoldable pub inputsOf : List (List ℕ) → Inputs
+inputsOf lines = record { count = length lines; inputs = inBlock lines; at = bytesOf lines }
 
 -- the first lines of the input, as many as make a block
-unfoldable pub ordersIn : List ℕ → Orders
-ordersIn input = ordersOf (take block (wholeLines input))
+unfoldable pub inputsIn : List ℕ → Inputs
+inputsIn input = inputsOf (take block (wholeLines input))
 
--- ---- the lines of replies
+-- ---- the lines of what is said
 
 -- one after another
-unfoldable pub replyLines : List Said → List ℕ
-replyLines [] = []
-replyLines (x ∷ said) = replyText (x .reply) ++ replyLines said
+unfoldable pub echoLines : List Output → List ℕ
+echoLines [] = []
+echoLines (x ∷ outputs) = echoText (x .echo) ++ echoLines outputs
 
--- room for a block of the longest replies; with less, nothing is put
+-- room for a block of the longest lines
 abbrev pub room : ℕ
 room = enough * block
-
-unfoldable pub repliesFor : List ℕ → List Said → ℕ → List ℕ
-repliesFor out said count = cond (ltb (length out) room) [] (replyLines (take (min count block) said))
 
 -- a text is put at the front: so many bytes, and behind them stands what stood there
 pub record Fronted (old new text : List ℕ) (used : ℕ) : Type 0 where
   pub many : used ≡ length text
   pub stands : new ≡ text ++ drop used old
+
+-- ---- lines answered: those of a block are put to the desk, and what is said is put at the front of `out`
+
+unfoldable pub servedLines : Desk → List ℕ → Served
+servedLines d input = served d (inputsIn input .inputs) (inputsIn input .count)
+
+unfoldable pub saidLines : Desk → List ℕ → List ℕ
+saidLines d input = echoLines (take (inputsIn input .count) (servedLines d input .outputs))
+
+-- with too little room nothing is put, and nothing is served either: no answer is lost
+unfoldable pub answersOf : Desk → List ℕ → List ℕ → Answers
+answersOf d input out =
+    cond (ltb (length out) room)
+    (record { desk = d; at = 0; used = 0 })
+    (record { desk = servedLines d input .desk; at = inputsIn input .at; used = length (saidLines d input) })
+
+unfoldable pub answerText : Desk → List ℕ → List ℕ → List ℕ
+answerText d input out = cond (ltb (length out) room) [] (saidLines d input)

@@ -1,68 +1,105 @@
-// Lines by the block: the commands of lines for a desk, and the lines of its answers.
-ghost use mathlib.Core.Path.{_≡_};
-ghost use Rattle.lines.specs.Lines.{ordersIn, repliesFor, Fronted};
-use desk::Order;
-use desk::Said;
+// Lines by the block: the whole lines of an input put to a desk, and the lines of what is said to them.
+use desk::Desk;
+use desk::Input;
+use desk::Output;
 use text::words::LINE_FEED;
+ghost use mathlib.Core.Path.{_≡_};
+ghost use mathlib.Core.List.{_++_};
+ghost use Prim.Native.Nat.{_≤_, min};
+ghost use lib.ListN.{length, take, drop};
+ghost use Rattle.desk.specs.Desk.{block};
+ghost use Rattle.lines.specs.Lines.{inputsIn, echoLines, room, Fronted, answersOf, answerText};
 
-// Room for a block of the longest replies.
+// Room for a block of the longest lines.
 pub const ROOM: usize = 256 * desk::BLOCK;
 
-// Commands for the desk, and how many bytes of the input they were.
-pub struct Orders {
+// Entries for the desk, and how many bytes of the input they were.
+pub struct Inputs {
     pub count: usize,
-    pub orders: [Order; desk::BLOCK],
+    pub inputs: [Input; desk::BLOCK],
     pub at: usize,
 }
 
-// The commands of the whole lines of the input, one after another, as many as make a block.
-pub fn orders_in(input: &[u8]) -> Orders
-    ensures { λ r. ⌜ r ≡ ordersIn (now (input .entry)) ⌝ }
+// The desk after some lines, how many bytes of the input these were, and how many bytes of text were put.
+pub struct Answers {
+    pub desk: Desk,
+    pub at: usize,
+    pub used: usize,
+}
+
+// The entries of the whole lines of the input, one after another, as many as make a block.
+pub fn inputs_in(input: &[u8]) -> Inputs
+    ensures { λ r. ⌜ r ≡ inputsIn (now (input .entry)) ⌝ }
 {
-    let none = desk::no_order();
-    let mut orders = [none; desk::BLOCK];
+    let none = desk::no_input();
+    let mut inputs = [none; desk::BLOCK];
     let mut count: usize = 0;
     let mut at: usize = 0;
     let mut n = text::words::first_of(input, LINE_FEED);
     while n < input.len() - at {
         if count == desk::BLOCK {
-            return Orders {
+            return Inputs {
                 count: count,
-                orders: orders,
+                inputs: inputs,
                 at: at,
             };
         }
         let end = at + n;
-        let command = text::commands::command_of(&input[at..end]);
-        orders[count] = Order { command: command };
+        let entry = text::entries::entry_of(&input[at..end]);
+        inputs[count] = Input { entry: entry };
         count += 1;
         at = end + 1;
         n = text::words::first_of(&input[at..], LINE_FEED);
     }
-    Orders {
+    Inputs {
         count: count,
-        orders: orders,
+        inputs: inputs,
         at: at,
     }
 }
 
-// A line for each of the first answers of a block, and how many bytes they are together. Nothing is put where there is not room for any.
-pub fn put_replies(out: &mut [u8], said: [Said; desk::BLOCK], count: usize) -> usize
-    ensures { λ r. ⌜ Fronted (now (out .entry)) (now (out .exit)) (repliesFor (now (out .entry)) said count) r ⌝ }
+// A line for each of the first answers of a block, and how many bytes they are together.
+fn put_echoes(out: &mut [u8], outputs: [Output; desk::BLOCK], count: usize) -> usize
+    requires { ⌜ room ≤ length (now out) ⌝ }
+    ensures { λ r. ⌜ Fronted (now (out .entry)) (now (out .exit)) (echoLines (take (min count block) outputs)) r ⌝ }
 {
-    if out.len() < ROOM {
-        return 0;
-    }
     let mut used: usize = 0;
     let mut k: usize = 0;
     while k < count {
         if k == desk::BLOCK {
             return used;
         }
-        let x = said[k];
-        let reply = x.reply;
-        used = text::replies::reply_line(out, used, reply);
+        let x = outputs[k];
+        let echo = x.echo;
+        used = text::echoes::echo_line(out, used, echo);
         k += 1;
     }
     used
+}
+
+// Puts the whole lines of the input to the desk, a block of them at most, and the lines of what is said to the front of `out`. Where `out` has
+// not room for any block's lines, nothing is put to the desk either: no answer is ever lost.
+pub fn answer(d: Desk, input: &[u8], out: &mut [u8]) -> Answers
+    ensures { λ r. ⌜ (r ≡ answersOf d (now (input .entry)) (now (out .entry)))
+        × (now (out .exit) ≡ answerText d (now (input .entry)) (now (out .entry)) ++ drop (r .used) (now (out .entry))) ⌝ }
+{
+    let short = out.len() < ROOM;
+    if short {
+        return Answers {
+            desk: d,
+            at: 0,
+            used: 0,
+        };
+    }
+    let asked = inputs_in(input);
+    let inputs = asked.inputs;
+    let served = desk::serve(d, inputs, asked.count);
+    let after = served.desk;
+    let outputs = served.outputs;
+    let used = put_echoes(out, outputs, asked.count);
+    Answers {
+        desk: after,
+        at: asked.at,
+        used: used,
+    }
 }

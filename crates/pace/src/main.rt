@@ -1,29 +1,34 @@
 // Puts one block of commands to a desk again and again, so that the device can be timed with the cost of its text set apart. The first line of
 // standard input is the number of passes, and the block's commands follow; a pass is what the bench does with a block between reading its
-// lines and writing its replies. Printed is how many commands the last pass accepted.
+// lines and writing its answers. Printed is how many commands the last pass accepted.
+use commands::Echo;
+use commands::Reply;
 use desk::Desk;
-use desk::Order;
-use desk::Said;
+use desk::Input;
+use desk::Output;
 use libc::STDIN_FILENO;
 use libc::STDOUT_FILENO;
 use text::numbers::Number;
-use text::replies::Reply;
 
-// A refusal is a number that is not 0; a line that is no command is refused too.
-fn is_accepted(x: Said) -> bool {
-    let reply = x.reply;
-    match reply {
-        Reply::Unknown => false,
-        Reply::Number(n) => n == 0,
-        _ => true,
+fn is_done(reply: Reply) -> bool {
+    reply.number == 0
+}
+
+// Accepted is a command whose number is 0.
+fn is_accepted(x: Output) -> bool {
+    let echo = x.echo;
+    match echo {
+        Echo::Nothing => false,
+        Echo::Unknown => false,
+        Echo::Said(reply) => is_done(reply),
     }
 }
 
-fn accepted_in(said: [Said; desk::BLOCK], count: usize) -> u64 {
+fn accepted_in(outputs: [Output; desk::BLOCK], count: usize) -> u64 {
     let mut found: u64 = 0;
     for k in 0..desk::BLOCK {
         if k < count {
-            let x = said[k];
+            let x = outputs[k];
             let good = is_accepted(x);
             if good {
                 found = std::num::wrapping_add_u64(found, 1);
@@ -34,16 +39,16 @@ fn accepted_in(said: [Said; desk::BLOCK], count: usize) -> u64 {
 }
 
 // How many of the block the last pass accepted.
-fn run(d: Desk, orders: [Order; desk::BLOCK], count: usize, passes: u64) -> u64 {
+fn run(d: Desk, inputs: [Input; desk::BLOCK], count: usize, passes: u64) -> u64 {
     let mut desk = d;
     let mut found: u64 = 0;
     let mut left = passes;
     while 0 < left {
-        let served = desk::serve(desk, orders, count);
+        let served = desk::serve(desk, inputs, count);
         let next = served.desk;
         desk = next;
-        let said = served.said;
-        found = accepted_in(said, count);
+        let outputs = served.outputs;
+        found = accepted_in(outputs, count);
         left -= 1;
     }
     found
@@ -60,11 +65,11 @@ fn timed(input: &[u8]) -> u64 {
     let n = text::words::first_of(input, text::words::LINE_FEED);
     if n < input.len() {
         let passes = number_in(&input[..n]);
-        let asked = lines::orders_in(&input[n + 1..]);
-        let orders = asked.orders;
+        let asked = lines::inputs_in(&input[n + 1..]);
+        let inputs = asked.inputs;
         let begun = desk::fresh(0, 0, 0);
         let d = begun.desk;
-        return run(d, orders, asked.count, passes);
+        return run(d, inputs, asked.count, passes);
     }
     0
 }

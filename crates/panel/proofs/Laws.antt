@@ -30,7 +30,9 @@ use Rattle.state.specs.declared.State.{State}
 use Rattle.state.specs.State.{fresh, latchedB, wholeB}
 use Rattle.state.proofs.Sound.{Sound, SoundCore, whole-sound, sound-whole, fresh-whole}
 use Rattle.asked.proofs.Laws.{line-read}
-use Rattle.panel.specs.Panel.{Logged, startRefusal, startOf, noLock, lockIn, withLock, turnCodes, turnedCore, turned, refusedTurn, openRefusal, openOf, shutRefusal, shutOf, clearedLatches, cleared, clearRefusal, clearOf, reported, logLineOf, archiveLineOf}
+use Rattle.commands.specs.declared.Given.the-variants as given
+use Rattle.commands.specs.Answers.{plain, Outcome, withLog}
+use Rattle.panel.specs.Panel.{startRefusal, startOf, noLock, lockIn, withLock, turnCodes, turnedCore, turned, refusedTurn, openRefusal, openOf, shutRefusal, shutOf, clearedLatches, cleared, clearRefusal, clearBy, clearOf, reported, logLineBy, logLineOf, archiveLineBy, archiveLineOf}
 
 -- ---- start
 
@@ -42,11 +44,11 @@ start-by time supcode custcode (is-false f) = rw f (fresh-whole time supcode cus
 pub start-whole : (time supcode custcode : ℕ) → wholeB (startOf time supcode custcode .state) ≡ true
 start-whole time supcode custcode = start-by time supcode custcode (either-of (leb endOfTime time))
 
-pub start-refused : (time supcode custcode : ℕ) → endOfTime ≤ time → startOf time supcode custcode ≡ record { number = 6; state = fresh 0 0 0 }
+pub start-refused : (time supcode custcode : ℕ) → endOfTime ≤ time → startOf time supcode custcode ≡ record { reply = plain 6; state = fresh 0 0 0 }
 unfolding startOf startRefusal
 start-refused time supcode custcode h = rw (le-leb endOfTime time h)
 
-pub start-done : (time supcode custcode : ℕ) → time < endOfTime → startOf time supcode custcode ≡ record { number = 0; state = fresh time supcode custcode }
+pub start-done : (time supcode custcode : ℕ) → time < endOfTime → startOf time supcode custcode ≡ record { reply = plain 0; state = fresh time supcode custcode }
 unfolding startOf startRefusal
 start-done time supcode custcode h = rw (lt-leb endOfTime time h)
 
@@ -59,12 +61,10 @@ turned-whole s lock to log e =
     let c : SoundCore (s .core) = p .core in
     sound-whole (turned s lock to log .answer .state) (record {
       core = record {
-        in-time = c .in-time;
+        measured = c .measured;
         fit = c .fit;
         ordered = c .ordered;
-        counted = c .counted;
         latched = c .latched;
-        in-month = c .in-month;
         archive-held = c .archive-held;
         log-held = book-stays log-common (length (turnCodes (s .core .locks) lock to)) (s .core .log) (c .log-held);
         audit-held = c .audit-held;
@@ -75,18 +75,18 @@ turned-whole s lock to log e =
 
 -- a turn by its refusal
 turn-whole : (number : ℕ) (s : State) (lock : ℕ) (to : Bool) (log : List LogLine) (done : Bool) → wholeB s ≡ true
-    → wholeB (cond {A = Logged} done (turned s lock to log) (refusedTurn number s log) .answer .state) ≡ true
+    → wholeB (cond {A = Outcome} done (turned s lock to log) (refusedTurn number s log) .answer .state) ≡ true
 turn-whole number s lock to log true e = turned-whole s lock to log e
 turn-whole number s lock to log false e = e
 
 pub open-whole : (s : State) (lock code : ℕ) (log : List LogLine) → wholeB s ≡ true → wholeB (openOf s lock code log .answer .state) ≡ true
 unfolding openOf
 open-whole s lock code log =
-    turn-whole (openRefusal s (length log) lock code) s lock true log (eqb (openRefusal s (length log) lock code) 0)
+    turn-whole (openRefusal (wholeB s) s (length log) lock code) s lock true log (eqb (openRefusal (wholeB s) s (length log) lock code) 0)
 
 pub shut-whole : (s : State) (lock : ℕ) (log : List LogLine) → wholeB s ≡ true → wholeB (shutOf s lock log .answer .state) ≡ true
 unfolding shutOf
-shut-whole s lock log = turn-whole (shutRefusal s (length log) lock) s lock false log (eqb (shutRefusal s (length log) lock) 0)
+shut-whole s lock log = turn-whole (shutRefusal (wholeB s) (length log) lock) s lock false log (eqb (shutRefusal (wholeB s) (length log) lock) 0)
 
 -- ---- clear
 
@@ -106,12 +106,10 @@ cleared-whole s e =
     let c : SoundCore (s .core) = p .core in
     sound-whole (cleared s) (record {
       core = record {
-        in-time = c .in-time;
+        measured = c .measured;
         fit = c .fit;
         ordered = c .ordered;
-        counted = c .counted;
-        latched = cleared-latched (s .core .alarms) (s .core .latches) ∙ c .latched;
-        in-month = c .in-month;
+        latched = cleared-latched (s .core .measured .alarms) (s .core .latches) ∙ c .latched;
         archive-held = c .archive-held;
         log-held = c .log-held;
         audit-held = c .audit-held;
@@ -125,8 +123,8 @@ clear-by number s true e = cleared-whole s e
 clear-by number s false e = e
 
 pub clear-whole : (s : State) → wholeB s ≡ true → wholeB (clearOf s .state) ≡ true
-unfolding clearOf
-clear-whole s = clear-by (clearRefusal s) s (eqb (clearRefusal s) 0)
+unfolding clearBy
+clear-whole s = clear-by (clearRefusal (wholeB s) s) s (eqb (clearRefusal (wholeB s) s) 0)
 
 -- of each alarm: a latch drops where the alarm is not present, and stays as it was where it is
 pub record Dropped (present latch after : Bool) : Type 0 where
@@ -155,11 +153,11 @@ clear-drops present latch = record {
 -- ---- totals
 
 -- main and disturbed that have counted a and b in all show the total a + b under the rollover
-pub total-litres : (c : Core) (a b : ℕ) → c .counters .vm ≡ litresShown a → c .counters .vmd ≡ litresShown b → reported c .vmt ≡ litresShown (a + b)
+pub total-litres : (c : Core) (a b : ℕ) → c .measured .counters .vm ≡ litresShown a → c .measured .counters .vmd ≡ litresShown b → reported c .vmt ≡ litresShown (a + b)
 unfolding reported
 total-litres c a b p q = rw (p, q) (litres-together a b)
 
-pub total-base : (c : Core) (a b : ℕ) → c .counters .vb ≡ baseShown a → c .counters .vbd ≡ baseShown b → reported c .vbt ≡ baseShown (a + b)
+pub total-base : (c : Core) (a b : ℕ) → c .measured .counters .vb ≡ baseShown a → c .measured .counters .vbd ≡ baseShown b → reported c .vbt ≡ baseShown (a + b)
 unfolding reported
 total-base c a b p q = rw (p, q) (base-together a b)
 
@@ -215,7 +213,7 @@ no-line b e =
 
 -- turned to where it already stands: accepted, not logged, and nothing changes
 pub turned-still : (s : State) (lock : ℕ) (to : Bool) (log : List LogLine) → wholeB s ≡ true → noLock lock ≡ false → lockIn (s .core .locks) lock ≡ to
-    → turned s lock to log ≡ record { answer = record { number = 0; state = s }; log = log }
+    → turned s lock to log ≡ withLog (record { reply = plain 0; state = s }) log
 unfolding turned turnedCore logged numbered written
 turned-still s lock to log e h at =
     rw (still-codes (s .core .locks) lock to at, still-by (s .core .locks) lock to (which lock h) at, no-line (s .core .log) (whole-sound s e .core .log-held))
@@ -224,11 +222,11 @@ turned-still s lock to log e h at =
 
 -- a line that is given is line i of those held, newest first
 pub log-line-held : (s : State) (i : ℕ) (log : List LogLine) → logLineOf s i log .number ≡ 0
-    → logLineOf s i log .line ≡ getD (heldLines logLines noLog (s .core .log .ring) log) i noLog
-unfolding logLineOf
-log-line-held s i log e = rw e (line-read noLog s logLines (length log) (s .core .log .ring) i log e)
+    → logLineOf s i log .given ≡ given.Log (getD (heldLines logLines noLog (s .core .log .ring) log) i noLog)
+unfolding logLineBy
+log-line-held s i log e = rw (e, line-read noLog (wholeB s) logLines (length log) (s .core .log .ring) i log e)
 
 pub archive-line-held : (s : State) (i : ℕ) (archive : List ArchiveLine) → archiveLineOf s i archive .number ≡ 0
-    → archiveLineOf s i archive .line ≡ getD (heldLines archiveLines noArchive (s .core .archive) archive) i noArchive
-unfolding archiveLineOf
-archive-line-held s i archive e = rw e (line-read noArchive s archiveLines (length archive) (s .core .archive) i archive e)
+    → archiveLineOf s i archive .given ≡ given.Archive (getD (heldLines archiveLines noArchive (s .core .archive) archive) i noArchive)
+unfolding archiveLineBy
+archive-line-held s i archive e = rw (e, line-read noArchive (wholeB s) archiveLines (length archive) (s .core .archive) i archive e)

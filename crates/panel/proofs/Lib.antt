@@ -1,4 +1,5 @@
 -- The types that walks hand over; the plans are the paper's answers; the laws.
-pub mod Types
-pub mod Planned
+pub mod Fixed
 pub mod Laws
+pub mod Planned
+pub mod Types

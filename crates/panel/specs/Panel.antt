@@ -16,16 +16,16 @@ use Rattle.state.specs.declared.Alarms.{Alarms}
 use Rattle.state.specs.declared.Locks.{Locks}
 use Rattle.state.specs.declared.Core.{Core}
 use Rattle.state.specs.declared.State.{State}
-use Rattle.state.specs.declared.Answer.{Answer}
 use Rattle.state.specs.declared.Moment.{Moment}
 use Rattle.state.specs.State.{fresh, wholeB}
 use Rattle.state.specs.Card.{firstOf}
 use Rattle.ring.specs.Store.{written}
 use Rattle.notes.specs.Notes.{keep, logged}
-use Rattle.asked.specs.Asked.{answered, slotOf, lineRefusal}
-use Rattle.panel.specs.declared.ReportAnswer.{ReportAnswer}
-use Rattle.panel.specs.declared.LogAnswer.{LogAnswer}
-use Rattle.panel.specs.declared.ArchiveAnswer.{ArchiveAnswer}
+use Rattle.commands.specs.declared.Given.the-variants as given
+use Rattle.commands.specs.declared.Reply.{Reply}
+use Rattle.commands.specs.declared.Answer.{Answer}
+use Rattle.commands.specs.Answers.{plain, giving, answered, Outcome, withLog}
+use Rattle.asked.specs.Asked.{isHeld, slotOf, lineRefusal}
 
 -- ---- start
 
@@ -65,10 +65,7 @@ turnCodes l lock false = keep (lockIn l lock) (40 + lock)
 
 unfoldable pub turnedCore : Core → ℕ → Bool → Core
 turnedCore c lock to = record {
-  time = c .time;
-  month = c .month;
-  counters = c .counters;
-  alarms = c .alarms;
+  measured = c .measured;
   latches = c .latches;
   locks = withLock (c .locks) lock to;
   settings = c .settings;
@@ -77,45 +74,41 @@ turnedCore c lock to = record {
   audit = c .audit;
 }
 
--- an answer with the logbook
-pub record Logged : Type 0 where
-  pub answer : Answer
-  pub log : List LogLine
-
 -- the time is that of the last accepted cycle
-unfoldable pub turned : State → ℕ → Bool → List LogLine → Logged
-turned s lock to log = record {
-  answer = record { number = 0; state = record { core = turnedCore (s .core) lock to; keypad = s .keypad; port = s .port } };
-  log = written logLines (s .core .log .ring) log (logged (s .core .log) (s .core .time) (turnCodes (s .core .locks) lock to));
-}
+unfoldable pub turned : State → ℕ → Bool → List LogLine → Outcome
+turned s lock to log =
+    withLog
+    (record { reply = plain 0; state = record { core = turnedCore (s .core) lock to; keypad = s .keypad; port = s .port } })
+    (written logLines (s .core .log .ring) log (logged (s .core .log) (s .core .measured .time) (turnCodes (s .core .locks) lock to)))
 
-abbrev pub refusedTurn : ℕ → State → List LogLine → Logged
-refusedTurn number s log = record { answer = record { number = number; state = s }; log = log }
+abbrev pub refusedTurn : ℕ → State → List LogLine → Outcome
+refusedTurn number s log = withLog (record { reply = plain number; state = s }) log
 
-unfoldable pub openRefusal : State → ℕ → ℕ → ℕ → ℕ
-openRefusal s logLength lock code = firstOf (
-    (1, not (wholeB s && eqb logLength logLines))
+-- here and below, `sound` says whether the state is whole
+unfoldable pub openRefusal : Bool → State → ℕ → ℕ → ℕ → ℕ
+openRefusal sound s logLength lock code = firstOf (
+    (1, not (sound && eqb logLength logLines))
     ∷ (3, noLock lock)
     ∷ (8, not (rightCode (s .core .locks) lock code))
     ∷ [])
 
-unfoldable pub openOf : State → ℕ → ℕ → List LogLine → Logged
+unfoldable pub openOf : State → ℕ → ℕ → List LogLine → Outcome
 openOf s lock code log =
-    let number = openRefusal s (length log) lock code in
+    let number = openRefusal (wholeB s) s (length log) lock code in
     cond (eqb number 0) (turned s lock true log) (refusedTurn number s log)
 
-unfoldable pub shutRefusal : State → ℕ → ℕ → ℕ
-shutRefusal s logLength lock = firstOf ((1, not (wholeB s && eqb logLength logLines)) ∷ (3, noLock lock) ∷ [])
+unfoldable pub shutRefusal : Bool → ℕ → ℕ → ℕ
+shutRefusal sound logLength lock = firstOf ((1, not (sound && eqb logLength logLines)) ∷ (3, noLock lock) ∷ [])
 
-unfoldable pub shutOf : State → ℕ → List LogLine → Logged
+unfoldable pub shutOf : State → ℕ → List LogLine → Outcome
 shutOf s lock log =
-    let number = shutRefusal s (length log) lock in
+    let number = shutRefusal (wholeB s) (length log) lock in
     cond (eqb number 0) (turned s lock false log) (refusedTurn number s log)
 
 -- ---- clear
 
-unfoldable pub clearRefusal : State → ℕ
-clearRefusal s = firstOf ((1, not (wholeB s)) ∷ (10, not (s .core .locks .cal || s .core .locks .sup)) ∷ [])
+unfoldable pub clearRefusal : Bool → State → ℕ
+clearRefusal sound s = firstOf ((1, not sound) ∷ (10, not (s .core .locks .cal || s .core .locks .sup)) ∷ [])
 
 -- drops the latch of each alarm not present
 unfoldable pub clearedLatches : Alarms → Alarms → Alarms
@@ -124,11 +117,8 @@ clearedLatches latch present = record { p = latch .p && present .p; t = latch .t
 unfoldable pub cleared : State → State
 cleared s = record {
   core = record {
-    time = s .core .time;
-    month = s .core .month;
-    counters = s .core .counters;
-    alarms = s .core .alarms;
-    latches = clearedLatches (s .core .latches) (s .core .alarms);
+    measured = s .core .measured;
+    latches = clearedLatches (s .core .latches) (s .core .measured .alarms);
     locks = s .core .locks;
     settings = s .core .settings;
     archive = s .core .archive;
@@ -139,42 +129,51 @@ cleared s = record {
   port = s .port;
 }
 
-unfoldable pub clearOf : State → Answer
-clearOf s = answered (clearRefusal s) s (cleared s)
+unfoldable pub clearBy : Bool → State → Answer
+clearBy sound s = answered (clearRefusal sound s) s (cleared s)
+
+abbrev pub clearOf : State → Answer
+clearOf s = clearBy (wholeB s) s
 
 -- ---- report
 
 -- time, the four counters, the two totals, alarms, latches and locks of one moment
 unfoldable pub reported : Core → Moment
 reported c = record {
-  time = c .time;
-  counters = c .counters;
-  vmt = plusLitres (c .counters .vm) (c .counters .vmd);
-  vbt = plusBase (c .counters .vb) (c .counters .vbd);
-  alarms = c .alarms;
+  time = c .measured .time;
+  counters = c .measured .counters;
+  vmt = plusLitres (c .measured .counters .vm) (c .measured .counters .vmd);
+  vbt = plusBase (c .measured .counters .vb) (c .measured .counters .vbd);
+  alarms = c .measured .alarms;
   latches = c .latches;
   cal = c .locks .cal;
   sup = c .locks .sup;
   cust = c .locks .cust;
 }
 
-unfoldable pub noReport : Moment
-noReport = reported (fresh 0 0 0 .core)
+unfoldable pub reportRefusal : Bool → ℕ
+reportRefusal sound = firstOf ((1, not sound) ∷ [])
 
-unfoldable pub reportRefusal : State → ℕ
-reportRefusal s = firstOf ((1, not (wholeB s)) ∷ [])
+unfoldable pub reportBy : Bool → State → Reply
+reportBy sound s = giving (reportRefusal sound) (given.Report (reported (s .core)))
 
-unfoldable pub reportOf : State → ReportAnswer
-reportOf s = record { number = reportRefusal s; report = cond (eqb (reportRefusal s) 0) (reported (s .core)) noReport }
+abbrev pub reportOf : State → Reply
+reportOf s = reportBy (wholeB s) s
 
 -- ---- a line of a store: line 0 is the newest
 
-unfoldable pub logLineOf : State → ℕ → List LogLine → LogAnswer
-logLineOf s i log =
-    let number = lineRefusal s logLines (length log) (s .core .log .ring) i in
-    record { number = number; line = cond (eqb number 0) (getD log (slotOf (placeOf logLines (s .core .log .ring) i)) noLog) noLog }
+unfoldable pub logLineBy : Bool → State → ℕ → List LogLine → Reply
+logLineBy sound s i log =
+    let place = placeOf logLines (s .core .log .ring) i in
+    giving (lineRefusal sound logLines (length log) (isHeld place)) (given.Log (getD log (slotOf place) noLog))
 
-unfoldable pub archiveLineOf : State → ℕ → List ArchiveLine → ArchiveAnswer
-archiveLineOf s i archive =
-    let number = lineRefusal s archiveLines (length archive) (s .core .archive) i in
-    record { number = number; line = cond (eqb number 0) (getD archive (slotOf (placeOf archiveLines (s .core .archive) i)) noArchive) noArchive }
+abbrev pub logLineOf : State → ℕ → List LogLine → Reply
+logLineOf s i log = logLineBy (wholeB s) s i log
+
+unfoldable pub archiveLineBy : Bool → State → ℕ → List ArchiveLine → Reply
+archiveLineBy sound s i archive =
+    let place = placeOf archiveLines (s .core .archive) i in
+    giving (lineRefusal sound archiveLines (length archive) (isHeld place)) (given.Archive (getD archive (slotOf place) noArchive))
+
+abbrev pub archiveLineOf : State → ℕ → List ArchiveLine → Reply
+archiveLineOf s i archive = archiveLineBy (wholeB s) s i archive

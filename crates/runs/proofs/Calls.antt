@@ -20,12 +20,12 @@ use Rattle.state.specs.declared.Session.{Session}
 use Rattle.state.specs.declared.State.{State}
 use Rattle.state.specs.State.{noSession, wholeB}
 use Rattle.state.specs.Card.{firstOf}
-use Rattle.doors.specs.Doors.{noDoor, noSuchSetting, sessionAt, otherAt, placed, withSession, cellAt, withCell, begun, beginRefusal, beginOf, abandonRefusal, abandonOf, readRefusal, valueRead, markedRead, readAfter, readOf, writeRefusal, stagedCell, writeAfter, writeOf, lockMissing, staleB, asStand, commitRefusal, auditOf, commitLines, overtakenSession, committedCore, committed, refusedCommit, commitOf}
+use Rattle.doors.specs.Doors.{noDoor, noSuchSetting, sessionAt, otherAt, placed, withSession, cellAt, withCell, begun, beginRefusal, beginBy, beginOf, abandonRefusal, abandonBy, abandonOf, readRefusal, valueRead, markedRead, readAfter, readBy, readOf, writeRefusal, stagedCell, writeAfter, writeBy, writeOf, lockMissing, staleB, asStand, commitRefusal, auditOf, commitLines, overtakenSession, committedCore, committed, refusedCommit, commitOf}
 use Rattle.state.proofs.Sound.{SoundCore}
 use Rattle.doors.proofs.Stays.{commit-accepted, core-stays}
 use Rattle.runs.specs.Exactly.{Rows}
-use Rattle.runs.specs.Run.{Step, cycle, openLock, shutLock, clear, report, archiveLine, logLine, auditLine, begin, abandon, commit, read, write, World, Reply, plain, value, step, roleAt, role}
-use Rattle.runs.proofs.Aside.{Body}
+use Rattle.runs.specs.Run.{Step, Cycle, Turn, Clear, Ask, Call, Commit, Begin, Read, Write, Abandon, World, Reply, plain, giving, step, roleAt, role, Body}
+use Rattle.commands.specs.declared.Given.the-variants as given
 
 -- ---- doors by their numbers
 
@@ -71,12 +71,12 @@ module _ {door : ℕ} where
 
 -- ---- the calls
 
-pub data Call : Step → Door → Act → Type 0 where
-  begins : {door : ℕ} {d : Door} → AtDoor door d → Call (begin door) d Act.begin
-  reads : {door setting : ℕ} {d : Door} → AtDoor door d → Call (read door setting) d Act.read
-  writes : {door setting : ℕ} {v : Value} {d : Door} → AtDoor door d → Call (write door setting v) d Act.write
-  commits : {door : ℕ} {d : Door} → AtDoor door d → Call (commit door) d Act.commit
-  abandons : {door : ℕ} {d : Door} → AtDoor door d → Call (abandon door) d Act.abandon
+pub data AtCall : Step → Door → Act → Type 0 where
+  begins : {door : ℕ} {d : Door} → AtDoor door d → AtCall (Call door Begin) d Act.begin
+  reads : {door setting : ℕ} {d : Door} → AtDoor door d → AtCall (Call door (Read setting)) d Act.read
+  writes : {door setting : ℕ} {v : Value} {d : Door} → AtDoor door d → AtCall (Call door (Write setting v)) d Act.write
+  commits : {door : ℕ} {d : Door} → AtDoor door d → AtCall (Commit door) d Act.commit
+  abandons : {door : ℕ} {d : Door} → AtDoor door d → AtCall (Call door Abandon) d Act.abandon
 
 not-aside : {d : Door} {y : Act} → _≡_ {A = Role} aside (at d y) → ⊥
 not-aside e = let z : _≡_ {A = ℕ} 0 1 = cc in omega arith
@@ -95,77 +95,69 @@ door-by door y d z false false p q e =
     (record { is-door = p; which = q ∙ ap isKeypad g }, h)
 
 -- a call of this kind at a door
-at-door : (door : ℕ) (y : Act) (d : Door) (z : Act) → roleAt door y ≡ at d z → (x : Step) → (AtDoor door d → Call x d y) → Call x d z
+at-door : (door : ℕ) (y : Act) (d : Door) (z : Act) → roleAt door y ≡ at d z → (x : Step) → (AtDoor door d → AtCall x d y) → AtCall x d z
 at-door door y d z o x f =
     let (a, e) = door-by door y d z (noDoor door) (eqb door 1) refl refl o in
-    subst (λ (w : Act). Call x d w) e (f a)
+    subst (λ (w : Act). AtCall x d w) e (f a)
 
-pub call-of : (x : Step) (d : Door) (y : Act) → role x ≡ at d y → Call x d y
-call-of (cycle r) d y o = absurd (not-aside o)
-call-of (openLock lock code) d y o = absurd (not-aside o)
-call-of (shutLock lock) d y o = absurd (not-aside o)
-call-of clear d y o = absurd (not-aside o)
-call-of report d y o = absurd (not-aside o)
-call-of (archiveLine i) d y o = absurd (not-aside o)
-call-of (logLine i) d y o = absurd (not-aside o)
-call-of (auditLine i) d y o = absurd (not-aside o)
-call-of (begin door) d y o = at-door door Act.begin d y o (begin door) begins
-call-of (abandon door) d y o = at-door door Act.abandon d y o (abandon door) abandons
-call-of (commit door) d y o = at-door door Act.commit d y o (commit door) commits
-call-of (read door setting) d y o = at-door door Act.read d y o (read door setting) reads
-call-of (write door setting v) d y o = at-door door Act.write d y o (write door setting v) writes
+pub call-of : (x : Step) (d : Door) (y : Act) → role x ≡ at d y → AtCall x d y
+call-of (Cycle r) d y o = absurd (not-aside o)
+call-of (Turn turn) d y o = absurd (not-aside o)
+call-of Clear d y o = absurd (not-aside o)
+call-of (Ask question) d y o = absurd (not-aside o)
+call-of (Call door Begin) d y o = at-door door Act.begin d y o (Call door Begin) begins
+call-of (Call door Abandon) d y o = at-door door Act.abandon d y o (Call door Abandon) abandons
+call-of (Commit door) d y o = at-door door Act.commit d y o (Commit door) commits
+call-of (Call door (Read setting)) d y o = at-door door Act.read d y o (Call door (Read setting)) reads
+call-of (Call door (Write setting v)) d y o = at-door door Act.write d y o (Call door (Write setting v)) writes
 
 -- ---- at a door with no session: the answer
 
 abbrev pub outsideOf : Step → Body → Reply
-outsideOf (cycle r) b = plain 0
-outsideOf (openLock lock code) b = plain 0
-outsideOf (shutLock lock) b = plain 0
-outsideOf clear b = plain 0
-outsideOf report b = plain 0
-outsideOf (archiveLine i) b = plain 0
-outsideOf (logLine i) b = plain 0
-outsideOf (auditLine i) b = plain 0
-outsideOf (begin door) b = plain 0
-outsideOf (abandon door) b = plain 4
-outsideOf (commit door) b = plain (cond (eqb (length (b .audit)) auditLines) 4 1)
-outsideOf (read door setting) b = value (cond (noSuchSetting setting) 3 4) (Whole (pos 0))
-outsideOf (write door setting v) b = plain (cond (noSuchSetting setting) 3 4)
+outsideOf (Cycle r) b = plain 0
+outsideOf (Turn turn) b = plain 0
+outsideOf Clear b = plain 0
+outsideOf (Ask question) b = plain 0
+outsideOf (Call door Begin) b = plain 0
+outsideOf (Call door Abandon) b = plain 4
+outsideOf (Commit door) b = plain (cond (eqb (length (b .audit)) auditLines) 4 1)
+outsideOf (Call door (Read setting)) b = plain (cond (noSuchSetting setting) 3 4)
+outsideOf (Call door (Write setting v)) b = plain (cond (noSuchSetting setting) 3 4)
 
 module _ {door : ℕ} {d : Door} (a : AtDoor door d) (b : Body) (m t : Session) (w : wholeB (stateAt d (b .core) m t) ≡ true) (o : m .live ≡ false) where
   live-at : sessionAt (stateAt d (b .core) m t) door .live ≡ false
   live-at = ap (λ (x : Session). x .live) (session-at a (b .core) m t) ∙ o
 
-  pub begin-outside : step (begin door) (worldAt d b m t) ≡ (worldAt d b begun t, plain 0)
-  unfolding beginOf beginRefusal
+  pub begin-outside : step (Call door Begin) (worldAt d b m t) ≡ (worldAt d b begun t, plain 0)
+  unfolding beginBy beginRefusal
   begin-outside = rw (w, a .is-door, live-at, with-session a (b .core) m t begun)
 
-  pub abandon-outside : step (abandon door) (worldAt d b m t) ≡ (worldAt d b m t, plain 4)
-  unfolding abandonOf abandonRefusal
+  pub abandon-outside : step (Call door Abandon) (worldAt d b m t) ≡ (worldAt d b m t, plain 4)
+  unfolding abandonBy abandonRefusal
   abandon-outside = rw (w, a .is-door, live-at)
 
-  read-outside-by : (setting : ℕ) (n : Bool) → noSuchSetting setting ≡ n → step (read door setting) (worldAt d b m t) ≡ (worldAt d b m t, outsideOf (read door setting) b)
-  unfolding readOf readRefusal
+  read-outside-by : (setting : ℕ) (n : Bool) → noSuchSetting setting ≡ n → step (Call door (Read setting)) (worldAt d b m t) ≡ (worldAt d b m t, outsideOf (Call door (Read setting)) b)
+  unfolding readBy readRefusal
   read-outside-by setting true e = rw (w, a .is-door, e)
   read-outside-by setting false e = rw (w, a .is-door, e, live-at)
 
-  pub read-outside : (setting : ℕ) → step (read door setting) (worldAt d b m t) ≡ (worldAt d b m t, outsideOf (read door setting) b)
+  pub read-outside : (setting : ℕ) → step (Call door (Read setting)) (worldAt d b m t) ≡ (worldAt d b m t, outsideOf (Call door (Read setting)) b)
   read-outside setting = read-outside-by setting (noSuchSetting setting) refl
 
-  write-outside-by : (setting : ℕ) (v : Value) (n : Bool) → noSuchSetting setting ≡ n → step (write door setting v) (worldAt d b m t) ≡ (worldAt d b m t, outsideOf (write door setting v) b)
-  unfolding writeOf writeRefusal
+  write-outside-by : (setting : ℕ) (v : Value) (n : Bool) → noSuchSetting setting ≡ n → step (Call door (Write setting v)) (worldAt d b m t) ≡ (worldAt d b m t, outsideOf (Call door (Write setting v)) b)
+  unfolding writeBy writeRefusal
   write-outside-by setting v true e = rw (w, a .is-door, e)
   write-outside-by setting v false e = rw (w, a .is-door, e, live-at)
 
-  pub write-outside : (setting : ℕ) (v : Value) → step (write door setting v) (worldAt d b m t) ≡ (worldAt d b m t, outsideOf (write door setting v) b)
+  pub write-outside : (setting : ℕ) (v : Value) → step (Call door (Write setting v)) (worldAt d b m t) ≡ (worldAt d b m t, outsideOf (Call door (Write setting v)) b)
   write-outside setting v = write-outside-by setting v (noSuchSetting setting) refl
 
-  commit-outside-by : (n : Bool) → eqb (length (b .audit)) auditLines ≡ n → step (commit door) (worldAt d b m t) ≡ (worldAt d b m t, outsideOf (commit door) b)
+  commit-outside-by : (n : Bool) → eqb (length (b .audit)) auditLines ≡ n → step (Commit door) (worldAt d b m t) ≡ (worldAt d b m t, outsideOf (Commit door) b)
   unfolding commitOf commitRefusal refusedCommit
   commit-outside-by true e = rw (w, e, a .is-door, live-at)
   commit-outside-by false e = rw (w, e)
 
-  pub commit-outside : step (commit door) (worldAt d b m t) ≡ (worldAt d b m t, outsideOf (commit door) b)
+  pub commit-outside : step (Commit door) (worldAt d b m t) ≡ (worldAt d b m t, outsideOf (Commit door) b)
   commit-outside = commit-outside-by (eqb (length (b .audit)) auditLines) refl
 
 -- ---- at a door with a session: the session after it, where it goes on, and the answer
@@ -174,7 +166,7 @@ module _ {door : ℕ} {d : Door} (a : AtDoor door d) (b : Body) (m t : Session) 
 abbrev pub readIn : ℕ → Body → Session → Session × Reply
 readIn setting b s = (
   withCell s setting (markedRead (cellAt s setting)),
-  value 0 (cond (cellAt s setting .staged) (cellAt s setting .value) (getD (b .core .settings) (setting - 1) noSetting .value)),
+  giving 0 (given.Value (cond (cellAt s setting .staged) (cellAt s setting .value) (getD (b .core .settings) (setting - 1) noSetting .value))),
 )
 
 abbrev pub writeIn : ℕ → Value → Session → Session × Reply
@@ -190,23 +182,19 @@ commitRows b s =
     ∷ []
 
 abbrev pub insideOf : Step → Body → Session → Session × Reply
-insideOf (cycle r) b s = (s, plain 0)
-insideOf (openLock lock code) b s = (s, plain 0)
-insideOf (shutLock lock) b s = (s, plain 0)
-insideOf clear b s = (s, plain 0)
-insideOf report b s = (s, plain 0)
-insideOf (archiveLine i) b s = (s, plain 0)
-insideOf (logLine i) b s = (s, plain 0)
-insideOf (auditLine i) b s = (s, plain 0)
-insideOf (begin door) b s = (s, plain 2)
-insideOf (abandon door) b s = (s, plain 0)
-insideOf (commit door) b s = (s, plain (firstOf (commitRows b s)))
-insideOf (read door setting) b s = cond (noSuchSetting setting) (s, value 3 (Whole (pos 0))) (readIn setting b s)
-insideOf (write door setting v) b s = cond (noSuchSetting setting) (s, plain 3) (cond (fitsB (setting - 1) v) (writeIn setting v s) (s, plain 9))
+insideOf (Cycle r) b s = (s, plain 0)
+insideOf (Turn turn) b s = (s, plain 0)
+insideOf Clear b s = (s, plain 0)
+insideOf (Ask question) b s = (s, plain 0)
+insideOf (Call door Begin) b s = (s, plain 2)
+insideOf (Call door Abandon) b s = (s, plain 0)
+insideOf (Commit door) b s = (s, plain (firstOf (commitRows b s)))
+insideOf (Call door (Read setting)) b s = cond (noSuchSetting setting) (s, plain 3) (readIn setting b s)
+insideOf (Call door (Write setting v)) b s = cond (noSuchSetting setting) (s, plain 3) (cond (fitsB (setting - 1) v) (writeIn setting v s) (s, plain 9))
 
 -- the lines of a commit, and all that is no session after it
 abbrev pub linesIn : ℕ → Body → Session → List AuditLine
-linesIn door b s = auditOf (b .core .audit) (b .core .time) door (b .core .settings) (s .cells) settingCount
+linesIn door b s = auditOf (b .core .audit) (b .core .measured .time) door (b .core .settings) (s .cells) settingCount
 
 abbrev pub forcedBy : ℕ → Body → Session → Body
 forcedBy door b s = record {
@@ -220,15 +208,15 @@ module _ {door : ℕ} {d : Door} (a : AtDoor door d) (b : Body) (m t : Session) 
   live-in : sessionAt (stateAt d (b .core) m t) door .live ≡ true
   live-in = ap (λ (x : Session). x .live) (session-at a (b .core) m t) ∙ o
 
-  pub begin-inside : step (begin door) (worldAt d b m t) ≡ (worldAt d b m t, plain 2)
-  unfolding beginOf beginRefusal
+  pub begin-inside : step (Call door Begin) (worldAt d b m t) ≡ (worldAt d b m t, plain 2)
+  unfolding beginBy beginRefusal
   begin-inside = rw (w, a .is-door, live-in)
 
-  pub abandon-inside : step (abandon door) (worldAt d b m t) ≡ (worldAt d b noSession t, plain 0)
-  unfolding abandonOf abandonRefusal
+  pub abandon-inside : step (Call door Abandon) (worldAt d b m t) ≡ (worldAt d b noSession t, plain 0)
+  unfolding abandonBy abandonRefusal
   abandon-inside = rw (w, a .is-door, live-in, with-session a (b .core) m t noSession)
 
-  read-number : (setting : ℕ) → readRefusal (stateAt d (b .core) m t) door setting ≡ cond (noSuchSetting setting) 3 0
+  read-number : (setting : ℕ) → readRefusal (wholeB (stateAt d (b .core) m t)) (stateAt d (b .core) m t) door setting ≡ cond (noSuchSetting setting) 3 0
   unfolding readRefusal
   read-number setting = rw (w, a .is-door, live-in)
 
@@ -236,22 +224,22 @@ module _ {door : ℕ} {d : Door} (a : AtDoor door d) (b : Body) (m t : Session) 
   unfolding readAfter
   read-after setting = rw (session-at a (b .core) m t) (with-session a (b .core) m t ((readIn setting b m) .0))
 
-  read-value : (setting : ℕ) → value 0 (valueRead (stateAt d (b .core) m t) door setting) ≡ (readIn setting b m) .1
+  read-value : (setting : ℕ) → giving 0 (given.Value (valueRead (stateAt d (b .core) m t) door setting)) ≡ (readIn setting b m) .1
   unfolding valueRead
   read-value setting = rw (session-at a (b .core) m t, core-at d (b .core) m t)
 
   read-inside-by : (setting : ℕ) (n : Bool) → noSuchSetting setting ≡ n
-      → step (read door setting) (worldAt d b m t) ≡ (worldAt d b ((insideOf (read door setting) b m) .0) t, (insideOf (read door setting) b m) .1)
-  unfolding readOf
+      → step (Call door (Read setting)) (worldAt d b m t) ≡ (worldAt d b ((insideOf (Call door (Read setting)) b m) .0) t, (insideOf (Call door (Read setting)) b m) .1)
+  unfolding readBy
   read-inside-by setting true e = rw (read-number setting, e)
   read-inside-by setting false e = rw (read-number setting, e, read-after setting, read-value setting)
 
   pub read-inside : (setting : ℕ)
-      → step (read door setting) (worldAt d b m t) ≡ (worldAt d b ((insideOf (read door setting) b m) .0) t, (insideOf (read door setting) b m) .1)
+      → step (Call door (Read setting)) (worldAt d b m t) ≡ (worldAt d b ((insideOf (Call door (Read setting)) b m) .0) t, (insideOf (Call door (Read setting)) b m) .1)
   read-inside setting = read-inside-by setting (noSuchSetting setting) refl
 
   write-number : (setting : ℕ) (v : Value)
-      → writeRefusal (stateAt d (b .core) m t) door setting v ≡ cond (noSuchSetting setting) 3 (cond (not (fitsB (setting - 1) v)) 9 0)
+      → writeRefusal (wholeB (stateAt d (b .core) m t)) (stateAt d (b .core) m t) door setting v ≡ cond (noSuchSetting setting) 3 (cond (not (fitsB (setting - 1) v)) 9 0)
   unfolding writeRefusal
   write-number setting v = rw (w, a .is-door, live-in)
 
@@ -260,18 +248,18 @@ module _ {door : ℕ} {d : Door} (a : AtDoor door d) (b : Body) (m t : Session) 
   write-after setting v = rw (session-at a (b .core) m t) (with-session a (b .core) m t ((writeIn setting v m) .0))
 
   write-inside-by : (setting : ℕ) (v : Value) (n f : Bool) → noSuchSetting setting ≡ n → fitsB (setting - 1) v ≡ f
-      → step (write door setting v) (worldAt d b m t) ≡ (worldAt d b ((insideOf (write door setting v) b m) .0) t, (insideOf (write door setting v) b m) .1)
-  unfolding writeOf
+      → step (Call door (Write setting v)) (worldAt d b m t) ≡ (worldAt d b ((insideOf (Call door (Write setting v)) b m) .0) t, (insideOf (Call door (Write setting v)) b m) .1)
+  unfolding writeBy
   write-inside-by setting v true f e g = rw (write-number setting v, e)
   write-inside-by setting v false true e g = rw (write-number setting v, e, g, write-after setting v)
   write-inside-by setting v false false e g = rw (write-number setting v, e, g)
 
   pub write-inside : (setting : ℕ) (v : Value)
-      → step (write door setting v) (worldAt d b m t) ≡ (worldAt d b ((insideOf (write door setting v) b m) .0) t, (insideOf (write door setting v) b m) .1)
+      → step (Call door (Write setting v)) (worldAt d b m t) ≡ (worldAt d b ((insideOf (Call door (Write setting v)) b m) .0) t, (insideOf (Call door (Write setting v)) b m) .1)
   write-inside setting v = write-inside-by setting v (noSuchSetting setting) (fitsB (setting - 1) v) refl refl
 
   -- commit: its number, and what becomes of the world by it
-  commit-number : commitRefusal (stateAt d (b .core) m t) door (length (b .audit)) ≡ firstOf (commitRows b m)
+  commit-number : commitRefusal (wholeB (stateAt d (b .core) m t)) (stateAt d (b .core) m t) door (length (b .audit)) ≡ firstOf (commitRows b m)
   unfolding commitRefusal
   commit-number = rw (w, a .is-door, live-in, core-at d (b .core) m t, session-at a (b .core) m t)
 
@@ -286,17 +274,17 @@ module _ {door : ℕ} {d : Door} (a : AtDoor door d) (b : Body) (m t : Session) 
       (placed-at a (forcedBy door b m .core) noSession (overtakenSession m t))
 
   pub commit-done : firstOf (commitRows b m) ≡ 0
-      → step (commit door) (worldAt d b m t) ≡ (worldAt d (forcedBy door b m) noSession (overtakenSession m t), plain 0)
+      → step (Commit door) (worldAt d b m t) ≡ (worldAt d (forcedBy door b m) noSession (overtakenSession m t), plain 0)
   unfolding commitOf
   commit-done e = rw (commit-number, e, committed-at, commit-lines, core-at d (b .core) m t)
 
   pub commit-ended : (n : ℕ) → eqb n 0 ≡ false → leb 10 n ≡ true → firstOf (commitRows b m) ≡ n
-      → step (commit door) (worldAt d b m t) ≡ (worldAt d b noSession t, plain n)
+      → step (Commit door) (worldAt d b m t) ≡ (worldAt d b noSession t, plain n)
   unfolding commitOf refusedCommit
   commit-ended n z l e = rw (commit-number, e, z, l, with-session a (b .core) m t noSession)
 
   pub commit-refused : (n : ℕ) → eqb n 0 ≡ false → leb 10 n ≡ false → firstOf (commitRows b m) ≡ n
-      → step (commit door) (worldAt d b m t) ≡ (worldAt d b m t, plain n)
+      → step (Commit door) (worldAt d b m t) ≡ (worldAt d b m t, plain n)
   unfolding commitOf refusedCommit
   commit-refused n z l e = rw (commit-number, e, z, l)
 

@@ -14,24 +14,24 @@ use Rattle.order.specs.Order.{run}
 use Rattle.calendar.specs.Calendar.{monthOf}
 use Rattle.calendar.proofs.Months.{month-mono}
 use Rattle.state.specs.Card.{firstOf}
-use Rattle.state.proofs.Sound.{whole-sound}
+use Rattle.state.specs.State.{wholeB}
+use Rattle.state.proofs.Sound.{measured-sound, whole-sound}
 use Rattle.books.specs.declared.ArchiveLine.{ArchiveLine}
 use Rattle.state.specs.declared.Counters.{Counters}
-use Rattle.cycle.specs.declared.Brought.{Brought}
+use Rattle.commands.specs.declared.Brought.{Brought}
 use Rattle.cycle.specs.Cycle.{monthsFrom, monthsCrossed, archiveLine, monthLines, cycleRefusal, cycledCore, cycled}
 use Rattle.cycle.proofs.Join.{accepted}
 use Rattle.panel.specs.Panel.{turnedCore, turned, cleared}
 use Rattle.doors.specs.Doors.{placed, withSession, readAfter, writeAfter, committedCore, committed}
-use Rattle.runs.specs.Run.{Step, cycle, openLock, shutLock, clear, report, logLine, auditLine, begin, abandon, commit, read, write, World, numberOf, step, corrector}
+use Rattle.runs.specs.Run.{Step, Cycle, Turn, Clear, Ask, Call, Commit, World, numberOf, step, corrector, Body, bodyOf}
 use Rattle.runs.specs.Run as Run
 use Rattle.runs.specs.Rows.{rowsOf, refusedBy}
 use Rattle.runs.specs.Lines.{archiveBy, archiveShelf, wrote}
-use Rattle.runs.proofs.Aside.{Body, bodyOf}
 use Rattle.runs.proofs.Effects.{after, number-is, world-is, refused-body}
 use Rattle.runs.proofs.Numbers.{map-join}
 
 abbrev monthIn : Body → ℕ
-monthIn b = b .core .month
+monthIn b = b .core .measured .month
 
 -- ---- months one after another
 
@@ -73,41 +73,34 @@ stays : (a : ℕ) → Crossed [] a a
 stays a = record { up = le-refl a; months = sym (crossed-none a) }
 
 -- an accepted cycle does not go back
-cycle-up : (w : World) (r : Brought) → firstOf (rowsOf (cycle r) w) ≡ 0 → w .state .core .month ≤ monthOf (r .time)
+cycle-up : (w : World) (r : Brought) → firstOf (rowsOf (Cycle r) w) ≡ 0 → w .state .core .measured .month ≤ monthOf (r .time)
 unfolding cycleRefusal
 cycle-up w r z =
-    let a = accepted (w .state) (length (w .archive)) (length (w .log)) r z in
-    let m = eqb-true (w .state .core .month) (monthOf (w .state .core .time)) (whole-sound (w .state) (a .whole) .core .in-month) in
-    rw m (month-mono (w .state .core .time) (r .time) (ltb-false (r .time) (w .state .core .time) (a .not-early)))
+    let a = accepted (wholeB (w .state)) (w .state) (length (w .archive)) (length (w .log)) r z in
+    let m = eqb-true (w .state .core .measured .month) (monthOf (w .state .core .measured .time)) (measured-sound (w .state .core .measured) (whole-sound (w .state) (a .is-whole) .core .measured) .in-month) in
+    rw m (month-mono (w .state .core .measured .time) (r .time) (ltb-false (r .time) (w .state .core .measured .time) (a .not-early)))
 
-accepted-crosses : (x : Step) (w : World) → firstOf (rowsOf x w) ≡ 0 → Crossed (archiveBy x w) (w .state .core .month) ((after x w) .state .core .month)
+accepted-crosses : (x : Step) (w : World) → firstOf (rowsOf x w) ≡ 0 → Crossed (archiveBy x w) (w .state .core .measured .month) ((after x w) .state .core .measured .month)
 unfolding cycled cycledCore turned turnedCore cleared withSession placed readAfter writeAfter committed committedCore
-accepted-crosses (cycle r) w z = record { up = cycle-up w r z; months = line-months (w .state .core .counters) (w .state .core .month) (monthOf (r .time)) }
-accepted-crosses (openLock lock code) w z = stays (w .state .core .month)
-accepted-crosses (shutLock lock) w z = stays (w .state .core .month)
-accepted-crosses clear w z = stays (w .state .core .month)
-accepted-crosses report w z = stays (w .state .core .month)
-accepted-crosses (Run.archiveLine i) w z = stays (w .state .core .month)
-accepted-crosses (logLine i) w z = stays (w .state .core .month)
-accepted-crosses (auditLine i) w z = stays (w .state .core .month)
-accepted-crosses (begin door) w z = stays (w .state .core .month)
-accepted-crosses (abandon door) w z = stays (w .state .core .month)
-accepted-crosses (commit door) w z = stays (w .state .core .month)
-accepted-crosses (read door setting) w z = stays (w .state .core .month)
-accepted-crosses (write door setting v) w z = stays (w .state .core .month)
+accepted-crosses (Cycle r) w z = record { up = cycle-up w r z; months = line-months (w .state .core .measured .counters) (w .state .core .measured .month) (monthOf (r .time)) }
+accepted-crosses (Turn turn) w z = stays (w .state .core .measured .month)
+accepted-crosses Clear w z = stays (w .state .core .measured .month)
+accepted-crosses (Ask question) w z = stays (w .state .core .measured .month)
+accepted-crosses (Call door act) w z = stays (w .state .core .measured .month)
+accepted-crosses (Commit door) w z = stays (w .state .core .measured .month)
 
 crosses-by : (x : Step) (w : World) (k : ℕ) → firstOf (rowsOf x w) ≡ k → (t : Bool) → eqb k 0 ≡ t
-    → Crossed (cond t (archiveBy x w) []) (w .state .core .month) (monthIn (bodyOf (cond t (after x w) (refusedBy x w k))))
+    → Crossed (cond t (archiveBy x w) []) (w .state .core .measured .month) (monthIn (bodyOf (cond t (after x w) (refusedBy x w k))))
 crosses-by x w k z true e = accepted-crosses x w (z ∙ eqb-true k 0 e)
-crosses-by x w k z false e = rw (refused-body x w k) (stays (w .state .core .month))
+crosses-by x w k z false e = rw (refused-body x w k) (stays (w .state .core .measured .month))
 
-crosses : (x : Step) (w : World) → Crossed (cond (eqb (numberOf ((step x w) .1)) 0) (archiveBy x w) []) (w .state .core .month) (monthIn (bodyOf ((step x w) .0)))
+crosses : (x : Step) (w : World) → Crossed (cond (eqb (numberOf ((step x w) .1)) 0) (archiveBy x w) []) (w .state .core .measured .month) (monthIn (bodyOf ((step x w) .0)))
 crosses x w = let k = firstOf (rowsOf x w) in rw (number-is x w, world-is x w) (crosses-by x w k refl (eqb k 0) refl)
 
 -- ---- a run
 
-run-crosses : (xs : List Step) (w : World) → Crossed (wrote archiveShelf xs w) (w .state .core .month) ((run corrector xs w) .1 .state .core .month)
-run-crosses [] w = stays (w .state .core .month)
+run-crosses : (xs : List Step) (w : World) → Crossed (wrote archiveShelf xs w) (w .state .core .measured .month) ((run corrector xs w) .1 .state .core .measured .month)
+run-crosses [] w = stays (w .state .core .measured .month)
 run-crosses (x ∷ xs) w =
     let one = crosses x w in
     let rest = run-crosses xs ((step x w) .0) in
@@ -115,10 +108,10 @@ run-crosses (x ∷ xs) w =
       up = omega (arith, one .up, rest .up);
       months =
           map-join (λ (l : ArchiveLine). l .month) (cond (eqb (numberOf ((step x w) .1)) 0) (archiveBy x w) []) (wrote archiveShelf xs ((step x w) .0))
-          ∙ rw (one .months, rest .months) (crossed-join (w .state .core .month) ((step x w) .0 .state .core .month) ((run corrector xs ((step x w) .0)) .1 .state .core .month) (one .up) (rest .up));
+          ∙ rw (one .months, rest .months) (crossed-join (w .state .core .measured .month) ((step x w) .0 .state .core .measured .month) ((run corrector xs ((step x w) .0)) .1 .state .core .measured .month) (one .up) (rest .up));
     }
 
 -- THE MONTHS CROSSED, one line each, in their order: from any world
 pub months-crossed : (xs : List Step) (w : World)
-    → map (λ (l : ArchiveLine). l .month) (wrote archiveShelf xs w) ≡ monthsCrossed (w .state .core .month) ((run corrector xs w) .1 .state .core .month)
+    → map (λ (l : ArchiveLine). l .month) (wrote archiveShelf xs w) ≡ monthsCrossed (w .state .core .measured .month) ((run corrector xs w) .1 .state .core .measured .month)
 months-crossed xs w = run-crosses xs w .months

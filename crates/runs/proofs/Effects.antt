@@ -1,5 +1,5 @@
 -- What each step does: its number is that of its rows; refused, it leaves the world, but that a commit refused by 10, 11 or 12 ends its
--- session; accepted, it does what stands here. A clause for each kind of step.
+-- session; accepted, it does what stands here. A clause for each group of commands.
 -- Assumes nothing.
 use mathlib.Core.Path.{_≡_, refl, sym, ap, _∙_}
 use mathlib.Core.Bool.{Bool, true, false, cond, _&&_}
@@ -12,66 +12,46 @@ use borrow.Author.Tests.{eqb-true, ltb-true, lt-ltb, leb-true, ne-eqb}
 use Rattle.ground.proofs.Flags.{and-left, and-right}
 use Rattle.ring.specs.Ring.{auditLines}
 use Rattle.ring.specs.Store.{written}
+use Rattle.state.specs.declared.Measured.{Measured}
+use Rattle.state.specs.declared.State.{State}
 use Rattle.state.specs.State.{noSession}
 use Rattle.state.specs.Card.{firstOf}
-use Rattle.asked.specs.Asked.{lineRefusal}
-use Rattle.cycle.specs.Cycle.{Outcome, cycleRefusal, cycled, cycleOf}
-use Rattle.panel.specs.Panel.{Logged, turned, openRefusal, openOf, shutRefusal, shutOf, clearRefusal, cleared, clearOf, reportRefusal, reportOf, logLineOf, archiveLineOf}
-use Rattle.doors.specs.Doors.{Audited, placed, withSession, begun, beginRefusal, beginOf, abandonRefusal, abandonOf, readRefusal, readAfter, readOf, writeRefusal, writeAfter, writeOf, commitRefusal, commitLines, committed, refusedCommit, commitOf, auditLineOf, auditAnswered}
-use Rattle.runs.specs.Exactly.{Rows, applies, earlier, listsNumber, Given, orderlyB}
-use Rattle.runs.specs.Rows.{rowsOf, printedAfter, lastNumber, placeInTable, withState, refusedBy, refusalOf}
-use Rattle.runs.specs.Run.{Step, cycle, openLock, shutLock, clear, report, archiveLine, logLine, auditLine, begin, abandon, commit, read, write, World, Reply, plain, numberOf, cycles, logs, audits, step}
+use Rattle.commands.specs.declared.Brought.{Brought}
+use Rattle.cycle.specs.Cycle.{cycleRefusal, cycledCore, cycled, cycleOf}
+use Rattle.panel.specs.Panel.{turnedCore, turned, clearRefusal, cleared, clearBy, clearOf}
+use Rattle.doors.specs.Doors.{sessionAt, placed, withSession, commitRefusal, commitLines, committedCore, committed, refusedCommit, commitOf}
+use Rattle.commands.specs.declared.Given.the-variants as given
+use Rattle.runs.specs.Exactly.{Rows, applies, earlier, listsNumber, orderlyB}
+use Rattle.runs.specs.Exactly as exact
+use Rattle.runs.specs.Rows.{asking, rowsOf, printedAfter, lastNumber, placeInTable, refusedBy}
+use Rattle.runs.specs.Run.{Step, Cycle, Turn, Clear, Ask, Call, Commit, Given, Reply, World, withState, numberOf, plain, giving, cycles, logs, audits, step, onCycle, Body, bodyOf, lockOf, opensIt}
 use Rattle.runs.proofs.Exactly.{exactly, done-exactly}
-use Rattle.runs.proofs.Aside.{Body, bodyOf}
+use Rattle.runs.proofs.Groups.{turn-is, reply-is, call-is, nothing-given, sessionBy, givesAt, printed-turn, printed-question, printed-call}
 
 -- an accepted step
 abbrev pub after : Step → World → World
-after (cycle r) w = (cycles w (cycled (w .state) r (w .archive) (w .log))) .0
-after (openLock lock code) w = (logs w (turned (w .state) lock true (w .log))) .0
-after (shutLock lock) w = (logs w (turned (w .state) lock false (w .log))) .0
-after clear w = withState w (cleared (w .state))
-after report w = w
-after (archiveLine i) w = w
-after (logLine i) w = w
-after (auditLine i) w = w
-after (begin door) w = withState w (withSession (w .state) door begun)
-after (abandon door) w = withState w (withSession (w .state) door noSession)
-after (commit door) w = record {
+after (Cycle r) w = (cycles w (cycled (w .state) r (w .archive) (w .log))) .0
+after (Turn turn) w = (logs w (turned (w .state) (lockOf turn) (opensIt turn) (w .log))) .0
+after Clear w = withState w (cleared (w .state))
+after (Ask question) w = w
+after (Call door act) w = withState w (withSession (w .state) door (sessionBy act (sessionAt (w .state) door)))
+after (Commit door) w = record {
   state = committed (w .state) door;
   archive = w .archive;
   log = w .log;
   audit = written auditLines (w .state .core .audit .ring) (w .audit) (commitLines (w .state) door);
 }
-after (read door setting) w = withState w (readAfter (w .state) door setting)
-after (write door setting v) w = withState w (writeAfter (w .state) door setting v)
 
--- ---- the number
+-- what it gives beside its number
+abbrev pub givenBy : Step → World → Given
+givenBy (Cycle r) w = given.Nothing
+givenBy (Turn turn) w = given.Nothing
+givenBy Clear w = given.Nothing
+givenBy (Ask question) w = asking question (bodyOf w) .gives
+givenBy (Call door act) w = givesAt door act (w .state)
+givenBy (Commit door) w = given.Nothing
 
--- of an answer that is chosen by its number
-chosen-by : {A : Type 0} (f : A → ℕ) (y n : A) (k : ℕ) → f y ≡ 0 → f n ≡ k → (t : Bool) → eqb k 0 ≡ t → f (cond t y n) ≡ k
-chosen-by f y n k p q true e = p ∙ sym (eqb-true k 0 e)
-chosen-by f y n k p q false e = q
-
-chosen : {A : Type 0} (f : A → ℕ) (y n : A) (k : ℕ) → f y ≡ 0 → f n ≡ k → f (cond (eqb k 0) y n) ≡ k
-chosen f y n k p q = chosen-by f y n k p q (eqb k 0) refl
-
-pub number-is : (x : Step) (w : World) → numberOf ((step x w) .1) ≡ firstOf (rowsOf x w)
-unfolding cycleOf cycleRefusal cycled openOf openRefusal shutOf shutRefusal turned clearOf clearRefusal reportOf reportRefusal logLineOf archiveLineOf auditLineOf auditAnswered lineRefusal beginOf beginRefusal abandonOf abandonRefusal readOf readRefusal writeOf writeRefusal commitOf commitRefusal
-number-is (cycle r) w = chosen (λ (o : Outcome). o .answer .number) _ _ (firstOf (rowsOf (cycle r) w)) refl refl
-number-is (openLock lock code) w = chosen (λ (o : Logged). o .answer .number) _ _ (firstOf (rowsOf (openLock lock code) w)) refl refl
-number-is (shutLock lock) w = chosen (λ (o : Logged). o .answer .number) _ _ (firstOf (rowsOf (shutLock lock) w)) refl refl
-number-is clear w = refl
-number-is report w = refl
-number-is (archiveLine i) w = refl
-number-is (logLine i) w = refl
-number-is (auditLine i) w = refl
-number-is (begin door) w = refl
-number-is (abandon door) w = refl
-number-is (commit door) w = chosen (λ (o : Audited). o .answer .number) _ _ (firstOf (rowsOf (commit door) w)) refl refl
-number-is (read door setting) w = refl
-number-is (write door setting v) w = refl
-
--- ---- the world
+-- ---- what a step comes to, by its number
 
 through : {A B : Type 0} (f : A → B) (t : Bool) (y n : A) → f (cond t y n) ≡ cond t (f y) (f n)
 through f true y n = refl
@@ -81,40 +61,70 @@ same-either : {A : Type 0} (t : Bool) (y : A) → cond t y y ≡ y
 same-either true y = refl
 same-either false y = refl
 
+abbrev Comes : Step → World → World × Reply → Type 0
+Comes x w o = o ≡ (cond (eqb (firstOf (rowsOf x w)) 0) (after x w) (refusedBy x w (firstOf (rowsOf x w))), giving (firstOf (rowsOf x w)) (givenBy x w))
+
+-- an answer that is chosen by its number
+chosen : {A : Type 0} (f : A → World × Reply) (y n : A) (k : ℕ) (a b : World) (t : Bool) → eqb k 0 ≡ t → f y ≡ (a, plain 0) → f n ≡ (b, plain k)
+    → f (cond (eqb k 0) y n) ≡ (cond (eqb k 0) a b, giving k given.Nothing)
+chosen f y n k a b true e p q = rw (eqb-true k 0 e) p
+chosen f y n k a b false e p q = rw e q
+
+-- a state that is
+settled : (w : World) (k : ℕ) (v : Given) (y : State) → _≡_ {A = World × Reply} (withState w (cond (eqb k 0) y (w .state)), giving k v) (cond (eqb k 0) (withState w y) w, giving k v)
+settled w k v y = ap (λ (u : World). (u, giving k v)) (through (withState w) (eqb k 0) y (w .state))
+
+pub step-is : (x : Step) (w : World) → Comes x w (step x w)
+unfolding cycleOf cycleRefusal cycled turned clearBy clearRefusal commitOf commitRefusal
+step-is (Cycle r) w = let k = firstOf (rowsOf (Cycle r) w) in chosen (cycles w) _ _ k (after (Cycle r) w) w (eqb k 0) refl refl refl
+step-is (Turn turn) w = let k = firstOf (rowsOf (Turn turn) w) in ap (logs w) (turn-is turn w) ∙ chosen (logs w) _ _ k (after (Turn turn) w) w (eqb k 0) refl refl refl
+step-is Clear w = let k = firstOf (rowsOf Clear w) in rw (nothing-given k) (settled w k given.Nothing (cleared (w .state)))
+step-is (Ask question) w = let k = firstOf (rowsOf (Ask question) w) in rw (same-either (eqb k 0) w) (ap (λ (r : Reply). (w, r)) (reply-is question w))
+step-is (Call door act) w = call-is door act w ∙ settled w (firstOf (rowsOf (Call door act) w)) (givesAt door act (w .state)) _
+step-is (Commit door) w =
+    let k = firstOf (rowsOf (Commit door) w) in
+    chosen (audits w) _ _ k (after (Commit door) w) (refusedBy (Commit door) w k) (eqb k 0) refl refl refl
+
+pub number-is : (x : Step) (w : World) → numberOf ((step x w) .1) ≡ firstOf (rowsOf x w)
+number-is x w = ap (λ (o : World × Reply). numberOf (o .1)) (step-is x w)
+
 pub world-is : (x : Step) (w : World)
     → (step x w) .0 ≡ cond (eqb (firstOf (rowsOf x w)) 0) (after x w) (refusedBy x w (firstOf (rowsOf x w)))
-unfolding cycleOf cycleRefusal openOf openRefusal shutOf shutRefusal clearOf clearRefusal beginOf beginRefusal abandonOf abandonRefusal readOf readRefusal writeOf writeRefusal commitOf commitRefusal
-world-is (cycle r) w = through (λ (o : Outcome). (cycles w o) .0) (eqb (firstOf (rowsOf (cycle r) w)) 0) _ _
-world-is (openLock lock code) w = through (λ (o : Logged). (logs w o) .0) (eqb (firstOf (rowsOf (openLock lock code) w)) 0) _ _
-world-is (shutLock lock) w = through (λ (o : Logged). (logs w o) .0) (eqb (firstOf (rowsOf (shutLock lock) w)) 0) _ _
-world-is clear w = through (withState w) (eqb (firstOf (rowsOf clear w)) 0) _ _
-world-is report w = sym (same-either (eqb (firstOf (rowsOf report w)) 0) w)
-world-is (archiveLine i) w = sym (same-either (eqb (firstOf (rowsOf (archiveLine i) w)) 0) w)
-world-is (logLine i) w = sym (same-either (eqb (firstOf (rowsOf (logLine i) w)) 0) w)
-world-is (auditLine i) w = sym (same-either (eqb (firstOf (rowsOf (auditLine i) w)) 0) w)
-world-is (begin door) w = through (withState w) (eqb (firstOf (rowsOf (begin door) w)) 0) _ _
-world-is (abandon door) w = through (withState w) (eqb (firstOf (rowsOf (abandon door) w)) 0) _ _
-world-is (commit door) w = through (λ (o : Audited). (audits w o) .0) (eqb (firstOf (rowsOf (commit door) w)) 0) _ _
-world-is (read door setting) w = through (withState w) (eqb (firstOf (rowsOf (read door setting) w)) 0) _ _
-world-is (write door setting v) w = through (withState w) (eqb (firstOf (rowsOf (write door setting v) w)) 0) _ _
+world-is x w = ap (λ (o : World × Reply). o .0) (step-is x w)
+
+-- ---- only a cycle measures
+
+pub on-cycle : {A B : Type 0} (h : A → B) (f : Brought → A) (d : A) (x : Step) → h (onCycle f d x) ≡ onCycle (λ r. h (f r)) (h d) x
+on-cycle h f d (Cycle r) = refl
+on-cycle h f d (Turn turn) = refl
+on-cycle h f d Clear = refl
+on-cycle h f d (Ask question) = refl
+on-cycle h f d (Call door act) = refl
+on-cycle h f d (Commit door) = refl
+
+pub measured-by : (x : Step) (w : World) → (after x w) .state .core .measured ≡ onCycle (λ r. cycledCore (w .state .core) r .measured) (w .state .core .measured) x
+unfolding cycled turned turnedCore cleared withSession placed committed committedCore
+measured-by (Cycle r) w = refl
+measured-by (Turn turn) w = refl
+measured-by Clear w = refl
+measured-by (Ask question) w = refl
+measured-by (Call door act) w = refl
+measured-by (Commit door) w = refl
+
+-- and so of any part of what it measures
+pub part-by : {A : Type 0} (h : Measured → A) (x : Step) (w : World) → h ((after x w) .state .core .measured) ≡ onCycle (λ r. h (cycledCore (w .state .core) r .measured)) (h (w .state .core .measured)) x
+part-by h x w = ap h (measured-by x w) ∙ on-cycle h (λ r. cycledCore (w .state .core) r .measured) (w .state .core .measured) x
 
 -- ---- every command, every state
 
 -- the rows stand in the printed order, and no number twice
 pub printed : (x : Step) (w : World) → printedAfter 0 (rowsOf x w) ≡ true
-printed (cycle r) w = refl
-printed (openLock lock code) w = refl
-printed (shutLock lock) w = refl
-printed clear w = refl
-printed report w = refl
-printed (archiveLine i) w = refl
-printed (logLine i) w = refl
-printed (auditLine i) w = refl
-printed (begin door) w = refl
-printed (abandon door) w = refl
-printed (commit door) w = refl
-printed (read door setting) w = refl
-printed (write door setting v) w = refl
+printed (Cycle r) w = refl
+printed (Turn turn) w = printed-turn turn w
+printed Clear w = refl
+printed (Ask question) w = printed-question question w
+printed (Call door act) w = printed-call door act (w .state)
+printed (Commit door) w = refl
 
 -- what that says of a first row and of those after it
 module _ (k : ℕ) (x : ℕ × Bool) (xs : Rows) (e : printedAfter k (x ∷ xs) ≡ true) where
@@ -148,8 +158,8 @@ orderly-after k [] e = refl
 orderly-after k (x ∷ xs) e =
     let place : ℕ = placeInTable (x .0) in
     let some : ltb 0 (x .0) ≡ true = lt-ltb 0 (x .0) (above-zero (x .0) k (its-place k x xs e)) in
-    let alone : listsNumber (x .0) xs ≡ false = passed (x .0) place xs (omega arith) (others k x xs e) in
-    rw (some, alone) (orderly-after place xs (others k x xs e))
+    let plain : listsNumber (x .0) xs ≡ false = passed (x .0) place xs (omega arith) (others k x xs e) in
+    rw (some, plain) (orderly-after place xs (others k x xs e))
 
 pub orderly : (x : Step) (w : World) → orderlyB (rowsOf x w) ≡ true
 orderly x w = orderly-after 0 (rowsOf x w) (printed x w)
@@ -167,7 +177,7 @@ pub in-table : (x : Step) (w : World) → numberOf ((step x w) .1) ≤ lastNumbe
 in-table x w = rw (number-is x w) (few 0 (rowsOf x w) (printed x w))
 
 -- EACH REFUSAL EXACTLY WHEN ITS RULE SAYS, the first in the printed order
-pub refused-exactly : (x : Step) (w : World) (n : ℕ) → 0 < n → (numberOf ((step x w) .1) ≡ n) ↔ Given n (rowsOf x w)
+pub refused-exactly : (x : Step) (w : World) (n : ℕ) → 0 < n → (numberOf ((step x w) .1) ≡ n) ↔ exact.Given n (rowsOf x w)
 refused-exactly x w n l = rw (number-is x w) (exactly (rowsOf x w) (orderly x w) n l)
 
 -- and its rule may be said in other words, b, that are the same where no row before it applies
@@ -192,30 +202,10 @@ refused-leaves x w n l e =
     world-is x w ∙ rw (q, ne-eqb n 0 (λ z. omega arith))
 
 -- and returns its number and no value
-says-by : {A : Type 0} (f : A → Reply) (y n : A) (k : ℕ) → f n ≡ plain k → eqb k 0 ≡ false → f (cond (eqb k 0) y n) ≡ plain k
-says-by f y n k e z = rw z e
-
-says : (x : Step) (w : World) (z : eqb (firstOf (rowsOf x w)) 0 ≡ false) → (step x w) .1 ≡ refusalOf x (firstOf (rowsOf x w))
-unfolding cycleOf cycleRefusal openOf openRefusal shutOf shutRefusal clearOf clearRefusal reportOf reportRefusal logLineOf archiveLineOf auditLineOf auditAnswered lineRefusal beginOf beginRefusal abandonOf abandonRefusal readOf readRefusal writeOf writeRefusal commitOf commitRefusal
-says (cycle r) w z = says-by (λ (o : Outcome). plain (o .answer .number)) _ _ (firstOf (rowsOf (cycle r) w)) refl z
-says (openLock lock code) w z = says-by (λ (o : Logged). plain (o .answer .number)) _ _ (firstOf (rowsOf (openLock lock code) w)) refl z
-says (shutLock lock) w z = says-by (λ (o : Logged). plain (o .answer .number)) _ _ (firstOf (rowsOf (shutLock lock) w)) refl z
-says clear w z = refl
-says report w z = rw z
-says (archiveLine i) w z = rw z
-says (logLine i) w z = rw z
-says (auditLine i) w z = rw z
-says (begin door) w z = refl
-says (abandon door) w z = refl
-says (commit door) w z = says-by (λ (o : Audited). plain (o .answer .number)) _ _ (firstOf (rowsOf (commit door) w)) refl z
-says (read door setting) w z = rw z
-says (write door setting v) w z = refl
-
-pub refused-says : (x : Step) (w : World) (n : ℕ) → 0 < n → numberOf ((step x w) .1) ≡ n → (step x w) .1 ≡ refusalOf x n
+pub refused-says : (x : Step) (w : World) (n : ℕ) → 0 < n → numberOf ((step x w) .1) ≡ n → (step x w) .1 ≡ plain n
 refused-says x w n l e =
     let q : firstOf (rowsOf x w) ≡ n = sym (number-is x w) ∙ e in
-    let z : eqb (firstOf (rowsOf x w)) 0 ≡ false = rw q (ne-eqb n 0 (λ h. omega arith)) in
-    says x w z ∙ ap (refusalOf x) q
+    ap (λ (o : World × Reply). o .1) (step-is x w) ∙ rw (q, ne-eqb n 0 (λ h. omega arith))
 
 -- ---- a refusal leaves the core and the stores
 
@@ -226,19 +216,12 @@ ended-core w door false = refl
 
 pub refused-body : (x : Step) (w : World) (n : ℕ) → bodyOf (refusedBy x w n) ≡ bodyOf w
 unfolding refusedCommit
-refused-body (cycle r) w k = refl
-refused-body (openLock lock code) w k = refl
-refused-body (shutLock lock) w k = refl
-refused-body clear w k = refl
-refused-body report w k = refl
-refused-body (archiveLine i) w k = refl
-refused-body (logLine i) w k = refl
-refused-body (auditLine i) w k = refl
-refused-body (begin door) w k = refl
-refused-body (abandon door) w k = refl
-refused-body (commit door) w k = rw (ended-core w door (leb 10 k))
-refused-body (read door setting) w k = refl
-refused-body (write door setting v) w k = refl
+refused-body (Cycle r) w k = refl
+refused-body (Turn turn) w k = refl
+refused-body Clear w k = refl
+refused-body (Ask question) w k = refl
+refused-body (Call door act) w k = refl
+refused-body (Commit door) w k = rw (ended-core w door (leb 10 k))
 
 -- so that what an accepted step leaves, each step leaves
 pub leaves : {A : Type 0} (f : Body → A) (x : Step) (w : World) → f (bodyOf (after x w)) ≡ f (bodyOf w) → f (bodyOf ((step x w) .0)) ≡ f (bodyOf w)

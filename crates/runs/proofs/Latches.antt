@@ -11,47 +11,35 @@ use Rattle.books.specs.declared.ArchiveLine.{ArchiveLine}
 use Rattle.books.specs.declared.LogLine.{LogLine}
 use Rattle.books.specs.declared.AuditLine.{AuditLine}
 use Rattle.state.specs.declared.Alarms.{Alarms}
+use Rattle.state.specs.declared.Measured.{Measured}
 use Rattle.state.specs.State.{noAlarm, fresh, freshCore}
 use Rattle.state.specs.Card.{firstOf}
 use Rattle.cycle.specs.Cycle.{alarmsFor, latchesAfter, cycledCore, cycled}
 use Rattle.panel.specs.Panel.{turnedCore, turned, clearedLatches, cleared, startOf, startRefusal}
 use Rattle.doors.specs.Doors.{placed, withSession, readAfter, writeAfter, committedCore, committed}
-use Rattle.runs.specs.Run.{Step, cycle, openLock, shutLock, clear, report, archiveLine, logLine, auditLine, begin, abandon, commit, read, write, World, step, corrector, started}
+use Rattle.runs.specs.Run.{Step, Cycle, Turn, Clear, Ask, Call, Commit, World, step, corrector, started, Body, bodyOf}
 use Rattle.runs.specs.Sums.{accepted}
 use Rattle.runs.specs.Rows.{rowsOf, refusedBy}
 use Rattle.runs.specs.Latches.{Alarm, p, t, k, flagOf, latch, foundBy, lastFound, findsPresent, clearsAbsent, clearedIn, latchedIn}
-use Rattle.runs.proofs.Aside.{Body, bodyOf}
-use Rattle.runs.proofs.Effects.{after, number-is, world-is, refused-body}
+use Rattle.runs.proofs.Effects.{after, part-by, number-is, world-is, refused-body}
 
 -- ---- present
 
 abbrev alarmsIn : Body → Alarms
-alarmsIn b = b .core .alarms
+alarmsIn b = b .core .measured .alarms
 
-accepted-found : (x : Step) (w : World) → alarmsIn (bodyOf (after x w)) ≡ foundBy x w (w .state .core .alarms)
-unfolding cycled cycledCore turned turnedCore cleared withSession placed readAfter writeAfter committed committedCore
-accepted-found (cycle r) w = refl
-accepted-found (openLock lock code) w = refl
-accepted-found (shutLock lock) w = refl
-accepted-found clear w = refl
-accepted-found report w = refl
-accepted-found (archiveLine i) w = refl
-accepted-found (logLine i) w = refl
-accepted-found (auditLine i) w = refl
-accepted-found (begin door) w = refl
-accepted-found (abandon door) w = refl
-accepted-found (commit door) w = refl
-accepted-found (read door setting) w = refl
-accepted-found (write door setting v) w = refl
+accepted-found : (x : Step) (w : World) → alarmsIn (bodyOf (after x w)) ≡ foundBy x w (w .state .core .measured .alarms)
+unfolding cycledCore
+accepted-found x w = part-by (λ (m : Measured). m .alarms) x w
 
-found-by : (x : Step) (w : World) (n : ℕ) (b : Bool) → alarmsIn (bodyOf (cond b (after x w) (refusedBy x w n))) ≡ cond b (foundBy x w (w .state .core .alarms)) (w .state .core .alarms)
+found-by : (x : Step) (w : World) (n : ℕ) (b : Bool) → alarmsIn (bodyOf (cond b (after x w) (refusedBy x w n))) ≡ cond b (foundBy x w (w .state .core .measured .alarms)) (w .state .core .measured .alarms)
 found-by x w n true = accepted-found x w
 found-by x w n false = ap alarmsIn (refused-body x w n)
 
-step-found : (x : Step) (w : World) → (step x w) .0 .state .core .alarms ≡ cond (accepted x w) (foundBy x w (w .state .core .alarms)) (w .state .core .alarms)
+step-found : (x : Step) (w : World) → (step x w) .0 .state .core .measured .alarms ≡ cond (accepted x w) (foundBy x w (w .state .core .measured .alarms)) (w .state .core .measured .alarms)
 step-found x w = let n = firstOf (rowsOf x w) in rw (number-is x w, world-is x w) (found-by x w n (eqb n 0))
 
-run-found : (xs : List Step) (w : World) (f : Alarms) → w .state .core .alarms ≡ f → (run corrector xs w) .1 .state .core .alarms ≡ lastFound xs w f
+run-found : (xs : List Step) (w : World) (f : Alarms) → w .state .core .measured .alarms ≡ f → (run corrector xs w) .1 .state .core .measured .alarms ≡ lastFound xs w f
 run-found [] w f e = e
 run-found (x ∷ xs) w f e = run-found xs ((step x w) .0) (cond (accepted x w) (foundBy x w f) f) (step-found x w ∙ rw e)
 
@@ -90,19 +78,12 @@ clear-latch k l f = dropped (l .k) (f .k)
 
 accepted-latch : (a : Alarm) (x : Step) (w : World) → latchIn a (bodyOf (after x w)) ≡ (latch a w && not (clearsAbsent a x w) || findsPresent a x w)
 unfolding cycled cycledCore turned turnedCore cleared withSession placed readAfter writeAfter committed committedCore
-accepted-latch a (cycle r) w = cycle-latch a (w .state .core .latches) (alarmsFor (w .state .core .settings) r)
-accepted-latch a (openLock lock code) w = kept (latch a w)
-accepted-latch a (shutLock lock) w = kept (latch a w)
-accepted-latch a clear w = clear-latch a (w .state .core .latches) (w .state .core .alarms)
-accepted-latch a report w = kept (latch a w)
-accepted-latch a (archiveLine i) w = kept (latch a w)
-accepted-latch a (logLine i) w = kept (latch a w)
-accepted-latch a (auditLine i) w = kept (latch a w)
-accepted-latch a (begin door) w = kept (latch a w)
-accepted-latch a (abandon door) w = kept (latch a w)
-accepted-latch a (commit door) w = kept (latch a w)
-accepted-latch a (read door setting) w = kept (latch a w)
-accepted-latch a (write door setting v) w = kept (latch a w)
+accepted-latch a (Cycle r) w = cycle-latch a (w .state .core .latches) (alarmsFor (w .state .core .settings) r)
+accepted-latch a (Turn turn) w = kept (latch a w)
+accepted-latch a Clear w = clear-latch a (w .state .core .latches) (w .state .core .measured .alarms)
+accepted-latch a (Ask question) w = kept (latch a w)
+accepted-latch a (Call door act) w = kept (latch a w)
+accepted-latch a (Commit door) w = kept (latch a w)
 
 latch-by : (a : Alarm) (x : Step) (w : World) (n : ℕ) (b : Bool)
     → latchIn a (bodyOf (cond b (after x w) (refusedBy x w n))) ≡ (latch a w && not (b && clearsAbsent a x w) || b && findsPresent a x w)
@@ -139,7 +120,7 @@ latch-stays a x xs w f c =
     let l : latch a v ≡ true = step-latch a x w ∙ rw f (or-true (latch a w && not (accepted x w && clearsAbsent a x w))) in
     run-latch a xs v ∙ rw (l, c)
 
-fresh-alarms : (b : Bool) (time supcode custcode : ℕ) → (cond b (fresh time supcode custcode) (fresh 0 0 0) .core .alarms ≡ noAlarm) × (cond b (fresh time supcode custcode) (fresh 0 0 0) .core .latches ≡ noAlarm)
+fresh-alarms : (b : Bool) (time supcode custcode : ℕ) → (cond b (fresh time supcode custcode) (fresh 0 0 0) .core .measured .alarms ≡ noAlarm) × (cond b (fresh time supcode custcode) (fresh 0 0 0) .core .latches ≡ noAlarm)
 unfolding fresh freshCore
 fresh-alarms true time supcode custcode = (refl, refl)
 fresh-alarms false time supcode custcode = (refl, refl)
@@ -154,12 +135,12 @@ module _ (xs : List Step) (time supcode custcode : ℕ) (archive : List ArchiveL
   abbrev start : World
   start = started time supcode custcode archive log audit
 
-  no-alarms : (start .state .core .alarms ≡ noAlarm) × (start .state .core .latches ≡ noAlarm)
+  no-alarms : (start .state .core .measured .alarms ≡ noAlarm) × (start .state .core .latches ≡ noAlarm)
   unfolding startOf
   no-alarms = fresh-alarms (eqb (startRefusal time) 0) time supcode custcode
 
   -- AN ALARM IS PRESENT AS THE LAST ACCEPTED CYCLE FOUND IT, and none before the first
-  pub present-as-found : (run corrector xs start) .1 .state .core .alarms ≡ lastFound xs start noAlarm
+  pub present-as-found : (run corrector xs start) .1 .state .core .measured .alarms ≡ lastFound xs start noAlarm
   present-as-found = run-found xs start noAlarm (no-alarms .0)
 
   -- ITS LATCH SHOWS EXACTLY WHEN it was present in an accepted cycle, and no accepted Clear after that found it not present

@@ -1,18 +1,18 @@
 -- What holds of every run.
 pub mod Exactly
 pub mod Cells
+pub mod Groups
+pub mod Effects
 pub mod Keeps
 pub mod Aside
 pub mod Calls
 pub mod Sessions
-pub mod Effects
 pub mod Sums
 pub mod Totals
 pub mod Lines
 pub mod Newest
 pub mod Numbers
 pub mod Crossed
-pub mod Fixed
 pub mod Stale
 pub mod Open
 pub mod Times

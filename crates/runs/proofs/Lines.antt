@@ -26,10 +26,9 @@ use Rattle.doors.specs.Doors.{placed, withSession, readAfter, writeAfter, commi
 use Rattle.books.specs.declared.ArchiveLine.{ArchiveLine}
 use Rattle.books.specs.declared.LogLine.{LogLine}
 use Rattle.books.specs.declared.AuditLine.{AuditLine}
-use Rattle.runs.specs.Run.{Step, cycle, openLock, shutLock, clear, report, archiveLine, logLine, auditLine, begin, abandon, commit, read, write, World, numberOf, step, corrector, started}
+use Rattle.runs.specs.Run.{Step, Cycle, Turn, Clear, Ask, Call, Commit, World, lockOf, opensIt, numberOf, step, corrector, started, Body, bodyOf}
 use Rattle.runs.specs.Rows.{rowsOf, refusedBy}
 use Rattle.runs.specs.Lines.{Shelf, archiveBy, archiveShelf, logBy, logShelf, auditBy, auditShelf, wrote, holds}
-use Rattle.runs.proofs.Aside.{Body, bodyOf}
 use Rattle.runs.proofs.Effects.{after, number-is, world-is, refused-body}
 
 -- What a store supplies: where the state tells of n lines, an accepted step's lines are told after it, and stand in the store.
@@ -98,35 +97,21 @@ no-more f a n e = rw add-zero e
 
 archive-tells : (x : Step) (w : World) (n : ℕ) → ArchiveTells n (bodyOf w) → ArchiveTells (n + length (archiveBy x w)) (bodyOf (after x w))
 unfolding cycled cycledCore turned turnedCore cleared withSession placed readAfter writeAfter committed committedCore
-archive-tells (cycle r) w n e = rw e (ring-advances archiveLines n (length (archiveBy (cycle r) w)) (omega arith))
-archive-tells (openLock lock code) w n e = no-more (ringAfter archiveLines) (w .state .core .archive) n e
-archive-tells (shutLock lock) w n e = no-more (ringAfter archiveLines) (w .state .core .archive) n e
-archive-tells clear w n e = no-more (ringAfter archiveLines) (w .state .core .archive) n e
-archive-tells report w n e = no-more (ringAfter archiveLines) (w .state .core .archive) n e
-archive-tells (archiveLine i) w n e = no-more (ringAfter archiveLines) (w .state .core .archive) n e
-archive-tells (logLine i) w n e = no-more (ringAfter archiveLines) (w .state .core .archive) n e
-archive-tells (auditLine i) w n e = no-more (ringAfter archiveLines) (w .state .core .archive) n e
-archive-tells (begin door) w n e = no-more (ringAfter archiveLines) (w .state .core .archive) n e
-archive-tells (abandon door) w n e = no-more (ringAfter archiveLines) (w .state .core .archive) n e
-archive-tells (commit door) w n e = no-more (ringAfter archiveLines) (w .state .core .archive) n e
-archive-tells (read door setting) w n e = no-more (ringAfter archiveLines) (w .state .core .archive) n e
-archive-tells (write door setting v) w n e = no-more (ringAfter archiveLines) (w .state .core .archive) n e
+archive-tells (Cycle r) w n e = rw e (ring-advances archiveLines n (length (archiveBy (Cycle r) w)) (omega arith))
+archive-tells (Turn turn) w n e = no-more (ringAfter archiveLines) (w .state .core .archive) n e
+archive-tells Clear w n e = no-more (ringAfter archiveLines) (w .state .core .archive) n e
+archive-tells (Ask question) w n e = no-more (ringAfter archiveLines) (w .state .core .archive) n e
+archive-tells (Call door act) w n e = no-more (ringAfter archiveLines) (w .state .core .archive) n e
+archive-tells (Commit door) w n e = no-more (ringAfter archiveLines) (w .state .core .archive) n e
 
 archive-stores : (x : Step) (w : World) → (after x w) .archive ≡ written archiveLines (w .state .core .archive) (w .archive) (archiveBy x w)
 unfolding written cycled turned
-archive-stores (cycle r) w = refl
-archive-stores (openLock lock code) w = refl
-archive-stores (shutLock lock) w = refl
-archive-stores clear w = refl
-archive-stores report w = refl
-archive-stores (archiveLine i) w = refl
-archive-stores (logLine i) w = refl
-archive-stores (auditLine i) w = refl
-archive-stores (begin door) w = refl
-archive-stores (abandon door) w = refl
-archive-stores (commit door) w = refl
-archive-stores (read door setting) w = refl
-archive-stores (write door setting v) w = refl
+archive-stores (Cycle r) w = refl
+archive-stores (Turn turn) w = refl
+archive-stores Clear w = refl
+archive-stores (Ask question) w = refl
+archive-stores (Call door act) w = refl
+archive-stores (Commit door) w = refl
 
 abbrev archiveKept : Kept archiveShelf
 archiveKept = record {
@@ -155,35 +140,21 @@ log-on w n time codes e =
 
 pub log-tells : (x : Step) (w : World) (n : ℕ) → LogTells n (bodyOf w) → LogTells (n + length (logBy x w)) (bodyOf (after x w))
 unfolding cycled cycledCore turned turnedCore cleared withSession placed readAfter writeAfter committed committedCore
-log-tells (cycle r) w n e = log-on w n (r .time) (changes (w .state .core .alarms) (alarmsFor (w .state .core .settings) r)) e
-log-tells (openLock lock code) w n e = log-on w n (w .state .core .time) (turnCodes (w .state .core .locks) lock true) e
-log-tells (shutLock lock) w n e = log-on w n (w .state .core .time) (turnCodes (w .state .core .locks) lock false) e
-log-tells clear w n e = no-more (bookAfter logLines) (w .state .core .log) n e
-log-tells report w n e = no-more (bookAfter logLines) (w .state .core .log) n e
-log-tells (archiveLine i) w n e = no-more (bookAfter logLines) (w .state .core .log) n e
-log-tells (logLine i) w n e = no-more (bookAfter logLines) (w .state .core .log) n e
-log-tells (auditLine i) w n e = no-more (bookAfter logLines) (w .state .core .log) n e
-log-tells (begin door) w n e = no-more (bookAfter logLines) (w .state .core .log) n e
-log-tells (abandon door) w n e = no-more (bookAfter logLines) (w .state .core .log) n e
-log-tells (commit door) w n e = no-more (bookAfter logLines) (w .state .core .log) n e
-log-tells (read door setting) w n e = no-more (bookAfter logLines) (w .state .core .log) n e
-log-tells (write door setting v) w n e = no-more (bookAfter logLines) (w .state .core .log) n e
+log-tells (Cycle r) w n e = log-on w n (r .time) (changes (w .state .core .measured .alarms) (alarmsFor (w .state .core .settings) r)) e
+log-tells (Turn turn) w n e = log-on w n (w .state .core .measured .time) (turnCodes (w .state .core .locks) (lockOf turn) (opensIt turn)) e
+log-tells Clear w n e = no-more (bookAfter logLines) (w .state .core .log) n e
+log-tells (Ask question) w n e = no-more (bookAfter logLines) (w .state .core .log) n e
+log-tells (Call door act) w n e = no-more (bookAfter logLines) (w .state .core .log) n e
+log-tells (Commit door) w n e = no-more (bookAfter logLines) (w .state .core .log) n e
 
 pub log-stores : (x : Step) (w : World) → (after x w) .log ≡ written logLines (w .state .core .log .ring) (w .log) (logBy x w)
 unfolding written cycled turned
-log-stores (cycle r) w = refl
-log-stores (openLock lock code) w = refl
-log-stores (shutLock lock) w = refl
-log-stores clear w = refl
-log-stores report w = refl
-log-stores (archiveLine i) w = refl
-log-stores (logLine i) w = refl
-log-stores (auditLine i) w = refl
-log-stores (begin door) w = refl
-log-stores (abandon door) w = refl
-log-stores (commit door) w = refl
-log-stores (read door setting) w = refl
-log-stores (write door setting v) w = refl
+log-stores (Cycle r) w = refl
+log-stores (Turn turn) w = refl
+log-stores Clear w = refl
+log-stores (Ask question) w = refl
+log-stores (Call door act) w = refl
+log-stores (Commit door) w = refl
 
 -- what a book tells, its ring tells
 pub book-ring : (size n : ℕ) (b : Book) → b ≡ bookAfter size n → b .ring ≡ ringAfter size n
@@ -210,37 +181,23 @@ AuditTells n b = b .core .audit ≡ bookAfter auditLines n
 
 pub audit-tells : (x : Step) (w : World) (n : ℕ) → AuditTells n (bodyOf w) → AuditTells (n + length (auditBy x w)) (bodyOf (after x w))
 unfolding cycled cycledCore turned turnedCore cleared withSession placed readAfter writeAfter committed committedCore
-audit-tells (cycle r) w n e = no-more (bookAfter auditLines) (w .state .core .audit) n e
-audit-tells (openLock lock code) w n e = no-more (bookAfter auditLines) (w .state .core .audit) n e
-audit-tells (shutLock lock) w n e = no-more (bookAfter auditLines) (w .state .core .audit) n e
-audit-tells clear w n e = no-more (bookAfter auditLines) (w .state .core .audit) n e
-audit-tells report w n e = no-more (bookAfter auditLines) (w .state .core .audit) n e
-audit-tells (archiveLine i) w n e = no-more (bookAfter auditLines) (w .state .core .audit) n e
-audit-tells (logLine i) w n e = no-more (bookAfter auditLines) (w .state .core .audit) n e
-audit-tells (auditLine i) w n e = no-more (bookAfter auditLines) (w .state .core .audit) n e
-audit-tells (begin door) w n e = no-more (bookAfter auditLines) (w .state .core .audit) n e
-audit-tells (abandon door) w n e = no-more (bookAfter auditLines) (w .state .core .audit) n e
-audit-tells (commit door) w n e =
-    let k = length (auditBy (commit door) w) in
+audit-tells (Cycle r) w n e = no-more (bookAfter auditLines) (w .state .core .audit) n e
+audit-tells (Turn turn) w n e = no-more (bookAfter auditLines) (w .state .core .audit) n e
+audit-tells Clear w n e = no-more (bookAfter auditLines) (w .state .core .audit) n e
+audit-tells (Ask question) w n e = no-more (bookAfter auditLines) (w .state .core .audit) n e
+audit-tells (Call door act) w n e = no-more (bookAfter auditLines) (w .state .core .audit) n e
+audit-tells (Commit door) w n e =
+    let k = length (auditBy (Commit door) w) in
     ap (advancedBook auditLines k) e ∙ book-advances auditLines n k (omega arith)
-audit-tells (read door setting) w n e = no-more (bookAfter auditLines) (w .state .core .audit) n e
-audit-tells (write door setting v) w n e = no-more (bookAfter auditLines) (w .state .core .audit) n e
 
 pub audit-stores : (x : Step) (w : World) → (after x w) .audit ≡ written auditLines (w .state .core .audit .ring) (w .audit) (auditBy x w)
 unfolding written cycled turned
-audit-stores (cycle r) w = refl
-audit-stores (openLock lock code) w = refl
-audit-stores (shutLock lock) w = refl
-audit-stores clear w = refl
-audit-stores report w = refl
-audit-stores (archiveLine i) w = refl
-audit-stores (logLine i) w = refl
-audit-stores (auditLine i) w = refl
-audit-stores (begin door) w = refl
-audit-stores (abandon door) w = refl
-audit-stores (commit door) w = refl
-audit-stores (read door setting) w = refl
-audit-stores (write door setting v) w = refl
+audit-stores (Cycle r) w = refl
+audit-stores (Turn turn) w = refl
+audit-stores Clear w = refl
+audit-stores (Ask question) w = refl
+audit-stores (Call door act) w = refl
+audit-stores (Commit door) w = refl
 
 abbrev pub auditKept : Kept auditShelf
 auditKept = record {

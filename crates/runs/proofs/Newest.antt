@@ -13,7 +13,9 @@ use Rattle.books.specs.declared.AuditLine.{AuditLine}
 use Rattle.books.specs.Books.{noArchive, noLog, noAudit}
 use Rattle.panel.proofs.Laws.{archive-line-held, log-line-held}
 use Rattle.doors.proofs.Laws.{audit-line-held}
-use Rattle.runs.specs.Run.{Step, archiveLine, logLine, auditLine, World, archived, logged, audited, numberOf, step, corrector, started}
+use Rattle.runs.specs.Run.{Step, Ask, World, giving, numberOf, step, corrector, started}
+use Rattle.commands.specs.declared.Question.the-variants as question
+use Rattle.commands.specs.declared.Given.the-variants as given
 use Rattle.runs.specs.Lines.{archiveShelf, logShelf, auditShelf, wrote}
 use Rattle.runs.proofs.Lines.{archive-holds, log-holds, audit-holds}
 
@@ -24,17 +26,17 @@ module _ (time supcode custcode : ℕ) (archive : List ArchiveLine) (log : List 
   abbrev end : World
   end = (run corrector xs start) .1
 
-  pub archive-newest : length archive ≡ archiveLines → numberOf ((step (archiveLine i) end) .1) ≡ 0
-      → (step (archiveLine i) end) .1 ≡ archived 0 (getD (take archiveLines (reverse (wrote archiveShelf xs start))) i noArchive)
+  pub archive-newest : length archive ≡ archiveLines → numberOf ((step (Ask (question.Archive i)) end) .1) ≡ 0
+      → (step (Ask (question.Archive i)) end) .1 ≡ giving 0 (given.Archive (getD (take archiveLines (reverse (wrote archiveShelf xs start))) i noArchive))
   archive-newest l e =
-      rw (e, archive-line-held (end .state) i (end .archive) e) (ap (λ (a : List ArchiveLine). archived 0 (getD a i noArchive)) (archive-holds time supcode custcode archive log audit xs l))
+      rw (e, archive-line-held (end .state) i (end .archive) e) (ap (λ (a : List ArchiveLine). giving 0 (given.Archive (getD a i noArchive))) (archive-holds time supcode custcode archive log audit xs l))
 
-  pub log-newest : length log ≡ logLines → numberOf ((step (logLine i) end) .1) ≡ 0
-      → (step (logLine i) end) .1 ≡ logged 0 (getD (take logLines (reverse (wrote logShelf xs start))) i noLog)
+  pub log-newest : length log ≡ logLines → numberOf ((step (Ask (question.Log i)) end) .1) ≡ 0
+      → (step (Ask (question.Log i)) end) .1 ≡ giving 0 (given.Log (getD (take logLines (reverse (wrote logShelf xs start))) i noLog))
   log-newest l e =
-      rw (e, log-line-held (end .state) i (end .log) e) (ap (λ (a : List LogLine). logged 0 (getD a i noLog)) (log-holds time supcode custcode archive log audit xs l))
+      rw (e, log-line-held (end .state) i (end .log) e) (ap (λ (a : List LogLine). giving 0 (given.Log (getD a i noLog))) (log-holds time supcode custcode archive log audit xs l))
 
-  pub audit-newest : length audit ≡ auditLines → numberOf ((step (auditLine i) end) .1) ≡ 0
-      → (step (auditLine i) end) .1 ≡ audited 0 (getD (take auditLines (reverse (wrote auditShelf xs start))) i noAudit)
+  pub audit-newest : length audit ≡ auditLines → numberOf ((step (Ask (question.Audit i)) end) .1) ≡ 0
+      → (step (Ask (question.Audit i)) end) .1 ≡ giving 0 (given.Audit (getD (take auditLines (reverse (wrote auditShelf xs start))) i noAudit))
   audit-newest l e =
-      rw (e, audit-line-held (end .state) i (end .audit) e) (ap (λ (a : List AuditLine). audited 0 (getD a i noAudit)) (audit-holds time supcode custcode archive log audit xs l))
+      rw (e, audit-line-held (end .state) i (end .audit) e) (ap (λ (a : List AuditLine). giving 0 (given.Audit (getD a i noAudit))) (audit-holds time supcode custcode archive log audit xs l))

@@ -24,10 +24,9 @@ use Rattle.books.specs.declared.AuditLine.{AuditLine}
 use Rattle.cycle.specs.Cycle.{changes, alarmsFor}
 use Rattle.panel.specs.Panel.{turnCodes}
 use Rattle.doors.specs.Doors.{sessionAt, lineFor, auditOf, commitLines}
-use Rattle.runs.specs.Run.{Step, cycle, openLock, shutLock, clear, report, archiveLine, logLine, auditLine, begin, abandon, commit, read, write, World, numberOf, step, started}
+use Rattle.runs.specs.Run.{Step, Cycle, Turn, Clear, Ask, Call, Commit, World, lockOf, opensIt, numberOf, step, started, Body, bodyOf}
 use Rattle.runs.specs.Rows.{rowsOf, refusedBy}
 use Rattle.runs.specs.Lines.{Shelf, logBy, logShelf, auditBy, auditShelf, wrote, numbersFrom}
-use Rattle.runs.proofs.Aside.{Body, bodyOf}
 use Rattle.runs.proofs.Effects.{after, number-is, world-is, refused-body}
 use Rattle.runs.proofs.Lines.{Kept, LogTells, AuditTells, logKept, auditKept, begun-tells}
 
@@ -95,19 +94,12 @@ logged-numbers w n time cs e =
     ∙ ap (numbersFrom n) (sym (numbered-length (w .state .core .log .number) time cs))
 
 log-numbers-on : (x : Step) (w : World) (n : ℕ) → LogTells n (bodyOf w) → map (λ (l : LogLine). l .number) (logBy x w) ≡ numbersFrom n (length (logBy x w))
-log-numbers-on (cycle r) w n e = logged-numbers w n (r .time) (changes (w .state .core .alarms) (alarmsFor (w .state .core .settings) r)) e
-log-numbers-on (openLock lock code) w n e = logged-numbers w n (w .state .core .time) (turnCodes (w .state .core .locks) lock true) e
-log-numbers-on (shutLock lock) w n e = logged-numbers w n (w .state .core .time) (turnCodes (w .state .core .locks) lock false) e
-log-numbers-on clear w n e = refl
-log-numbers-on report w n e = refl
-log-numbers-on (archiveLine i) w n e = refl
-log-numbers-on (logLine i) w n e = refl
-log-numbers-on (auditLine i) w n e = refl
-log-numbers-on (begin door) w n e = refl
-log-numbers-on (abandon door) w n e = refl
-log-numbers-on (commit door) w n e = refl
-log-numbers-on (read door setting) w n e = refl
-log-numbers-on (write door setting v) w n e = refl
+log-numbers-on (Cycle r) w n e = logged-numbers w n (r .time) (changes (w .state .core .measured .alarms) (alarmsFor (w .state .core .settings) r)) e
+log-numbers-on (Turn turn) w n e = logged-numbers w n (w .state .core .measured .time) (turnCodes (w .state .core .locks) (lockOf turn) (opensIt turn)) e
+log-numbers-on Clear w n e = refl
+log-numbers-on (Ask question) w n e = refl
+log-numbers-on (Call door act) w n e = refl
+log-numbers-on (Commit door) w n e = refl
 
 -- ---- the audit trail
 
@@ -129,21 +121,14 @@ module _ (b : Book) (time door : ℕ) (a : List Setting) (cells : List Cell) whe
 
 audit-numbers-on : (x : Step) (w : World) (n : ℕ) → AuditTells n (bodyOf w) → map (λ (l : AuditLine). l .number) (auditBy x w) ≡ numbersFrom n (length (auditBy x w))
 unfolding commitLines
-audit-numbers-on (cycle r) w n e = refl
-audit-numbers-on (openLock lock code) w n e = refl
-audit-numbers-on (shutLock lock) w n e = refl
-audit-numbers-on clear w n e = refl
-audit-numbers-on report w n e = refl
-audit-numbers-on (archiveLine i) w n e = refl
-audit-numbers-on (logLine i) w n e = refl
-audit-numbers-on (auditLine i) w n e = refl
-audit-numbers-on (begin door) w n e = refl
-audit-numbers-on (abandon door) w n e = refl
-audit-numbers-on (commit door) w n e =
-    audit-numbers-of (w .state .core .audit) (w .state .core .time) door (w .state .core .settings) (sessionAt (w .state) door .cells) settingCount
-    ∙ book-numbers auditLines n (length (auditBy (commit door) w)) (w .state .core .audit) e
-audit-numbers-on (read door setting) w n e = refl
-audit-numbers-on (write door setting v) w n e = refl
+audit-numbers-on (Cycle r) w n e = refl
+audit-numbers-on (Turn turn) w n e = refl
+audit-numbers-on Clear w n e = refl
+audit-numbers-on (Ask question) w n e = refl
+audit-numbers-on (Call door act) w n e = refl
+audit-numbers-on (Commit door) w n e =
+    audit-numbers-of (w .state .core .audit) (w .state .core .measured .time) door (w .state .core .settings) (sessionAt (w .state) door .cells) settingCount
+    ∙ book-numbers auditLines n (length (auditBy (Commit door) w)) (w .state .core .audit) e
 
 -- ---- from a start
 

@@ -27,7 +27,7 @@ use Rattle.panel.specs.Panel.{turned, cleared, startOf, startRefusal}
 use Rattle.doors.specs.Doors.{noDoor, noSuchSetting, sessionAt, otherAt, placed, withSession, withCell, begun, readAfter, writeAfter, lockMissing, staleB, asStand, overtakenSession, committed, refusedCommit}
 use Rattle.runs.specs.Exactly.{Rows, earlier}
 use Rattle.runs.specs.Rows.{rowsOf, unsound, notWhole, refusedBy}
-use Rattle.runs.specs.Run.{Step, cycle, openLock, shutLock, clear, report, archiveLine, logLine, auditLine, begin, abandon, commit, read, write, World, numberOf, step, corrector, started}
+use Rattle.runs.specs.Run.{Step, Cycle, Turn, Clear, Ask, Call, Commit, Begin, Read, Write, Abandon, World, numberOf, step, corrector, started}
 use Rattle.runs.specs.History.{History, history}
 use Rattle.runs.specs.Open.{endsRefused, openAfter, openAt}
 use Rattle.runs.proofs.Exactly.{silent}
@@ -73,22 +73,18 @@ commit-live s = both-doors _ refl refl refl refl
 -- ---- accepted
 
 done-open : (x : Step) (w : World) → firstOf (rowsOf x w) ≡ 0 → (door : ℕ) → noDoor door ≡ false → live (after x w .state) door ≡ openAfter door x 0 (live (w .state) door)
-unfolding sessionAt cycled turned cleared
-done-open (cycle r) w z door e = refl
-done-open (openLock lock code) w z door e = refl
-done-open (shutLock lock) w z door e = refl
-done-open clear w z door e = refl
-done-open report w z door e = refl
-done-open (archiveLine i) w z door e = refl
-done-open (logLine i) w z door e = refl
-done-open (auditLine i) w z door e = refl
-done-open (begin d) w z door e = begin-live (w .state) d (silent (rowsOf (begin d) w) refl z 3) door e
-done-open (abandon d) w z door e = end-live (w .state) d (silent (rowsOf (abandon d) w) refl z 3) door e
-done-open (commit d) w z door e = commit-live (w .state) d (silent (rowsOf (commit d) w) refl z 3) door e
-done-open (read d j) w z door e =
-    read-live (w .state) j d (or-false-left (noDoor d) (noSuchSetting j) (silent (rowsOf (read d j) w) refl z 3)) door e
-done-open (write d j v) w z door e =
-    write-live (w .state) j v d (or-false-left (noDoor d) (noSuchSetting j) (silent (rowsOf (write d j v) w) refl z 3)) door e
+unfolding sessionAt cycled turned cleared readAfter writeAfter
+done-open (Cycle r) w z door e = refl
+done-open (Turn turn) w z door e = refl
+done-open Clear w z door e = refl
+done-open (Ask question) w z door e = refl
+done-open (Call d Begin) w z door e = begin-live (w .state) d (silent (rowsOf (Call d Begin) w) refl z 3) door e
+done-open (Call d Abandon) w z door e = end-live (w .state) d (silent (rowsOf (Call d Abandon) w) refl z 3) door e
+done-open (Commit d) w z door e = commit-live (w .state) d (silent (rowsOf (Commit d) w) refl z 3) door e
+done-open (Call d (Read j)) w z door e =
+    read-live (w .state) j d (or-false-left (noDoor d) (noSuchSetting j) (silent (rowsOf (Call d (Read j)) w) refl z 3)) door e
+done-open (Call d (Write j v)) w z door e =
+    write-live (w .state) j v d (or-false-left (noDoor d) (noSuchSetting j) (silent (rowsOf (Call d (Write j v)) w) refl z 3)) door e
 
 -- ---- refused
 
@@ -112,24 +108,20 @@ past-three false false c d e f h = refl
 
 -- a commit's own; k: its number, t: whether that is one from 10 on
 ended-open : (s : State) (d k : ℕ) (t : Bool) → leb 10 k ≡ t → eqb k 0 ≡ false → leb 10 k ≡ endsRefused k → (leb 10 k ≡ true → noDoor d ≡ false) → (door : ℕ) → noDoor door ≡ false
-    → live (cond t (withSession s d noSession) s) door ≡ openAfter door (commit d) k (live s door)
+    → live (cond t (withSession s d noSession) s) door ≡ openAfter door (Commit d) k (live s door)
 ended-open s d k true q z h f door e = let r : endsRefused k ≡ true = sym h ∙ q in rw (z, r) (end-live s d (f q) door e)
 ended-open s d k false q z h f door e = let r : endsRefused k ≡ false = sym h ∙ q in rw (z, r)
 
 refused-open : (x : Step) (w : World) (k : ℕ) → firstOf (rowsOf x w) ≡ k → eqb k 0 ≡ false → (door : ℕ) → noDoor door ≡ false
     → live (refusedBy x w k .state) door ≡ openAfter door x k (live (w .state) door)
 unfolding refusedCommit
-refused-open (cycle r) w k q z door e = refl
-refused-open (openLock lock code) w k q z door e = refl
-refused-open (shutLock lock) w k q z door e = refl
-refused-open clear w k q z door e = refl
-refused-open report w k q z door e = refl
-refused-open (archiveLine i) w k q z door e = refl
-refused-open (logLine i) w k q z door e = refl
-refused-open (auditLine i) w k q z door e = refl
-refused-open (begin d) w k q z door e = rw z
-refused-open (abandon d) w k q z door e = rw z
-refused-open (commit d) w k q z door e =
+refused-open (Cycle r) w k q z door e = refl
+refused-open (Turn turn) w k q z door e = refl
+refused-open Clear w k q z door e = refl
+refused-open (Ask question) w k q z door e = refl
+refused-open (Call d Begin) w k q z door e = rw z
+refused-open (Call d Abandon) w k q z door e = rw z
+refused-open (Commit d) w k q z door e =
     let s : State = w .state in
     let cells = sessionAt s d .cells in
     let a = unsound w (eqb (length (w .audit)) auditLines) in
@@ -139,8 +131,8 @@ refused-open (commit d) w k q z door e =
     (rw q at (from-ten a (noDoor d) (not (live s d)) l (staleB cells) o))
     (rw q at (past-three a (noDoor d) (not (live s d)) l (staleB cells) o))
     door e
-refused-open (read d setting) w k q z door e = refl
-refused-open (write d setting v) w k q z door e = refl
+refused-open (Call d (Read setting)) w k q z door e = refl
+refused-open (Call d (Write setting v)) w k q z door e = refl
 
 -- ---- a step, a run
 
@@ -183,9 +175,9 @@ module _ (xs : List Step) (time supcode custcode : ℕ) (archive : List ArchiveL
 
   -- A BEGIN IS REFUSED BY 2 EXACTLY WHEN the history says that a session is open at its door, where 1 and 3 do not come first
   pub begin-open-exactly : (door : ℕ)
-      → (numberOf ((step (begin door) end) .1) ≡ 2) ↔ ((earlier 2 (rowsOf (begin door) end) ≡ false) × (openAt door (history xs start) ≡ true))
+      → (numberOf ((step (Call door Begin) end) .1) ≡ 2) ↔ ((earlier 2 (rowsOf (Call door Begin) end) ≡ false) × (openAt door (history xs start) ≡ true))
   begin-open-exactly door =
-      refused-when (begin door) end 2 (omega arith) (openAt door (history xs start)) (λ e. open-exactly door (third (notWhole end) (noDoor door) e))
+      refused-when (Call door Begin) end 2 (omega arith) (openAt door (history xs start)) (λ e. open-exactly door (third (notWhole end) (noDoor door) e))
 
   -- A READ, WRITE, COMMIT OR ABANDON IS REFUSED BY 4 EXACTLY WHEN the history says that no session is open there, where 1 and 3 do not come first
   abbrev pub ClosedExactly : ℕ → Step → Type 0
@@ -194,21 +186,21 @@ module _ (xs : List Step) (time supcode custcode : ℕ) (archive : List ArchiveL
   closed-same : (door : ℕ) → noDoor door ≡ false → not (sessionAt (end .state) door .live) ≡ not (openAt door (history xs start))
   closed-same door e = ap not (open-exactly door e)
 
-  pub read-closed-exactly : (door setting : ℕ) → ClosedExactly door (read door setting)
+  pub read-closed-exactly : (door setting : ℕ) → ClosedExactly door (Call door (Read setting))
   read-closed-exactly door setting =
-      refused-when (read door setting) end 4 (omega arith) (not (openAt door (history xs start)))
+      refused-when (Call door (Read setting)) end 4 (omega arith) (not (openAt door (history xs start)))
       (λ e. closed-same door (or-false-left (noDoor door) (noSuchSetting setting) (third (notWhole end) (noDoor door || noSuchSetting setting) e)))
 
-  pub write-closed-exactly : (door setting : ℕ) (v : Value) → ClosedExactly door (write door setting v)
+  pub write-closed-exactly : (door setting : ℕ) (v : Value) → ClosedExactly door (Call door (Write setting v))
   write-closed-exactly door setting v =
-      refused-when (write door setting v) end 4 (omega arith) (not (openAt door (history xs start)))
+      refused-when (Call door (Write setting v)) end 4 (omega arith) (not (openAt door (history xs start)))
       (λ e. closed-same door (or-false-left (noDoor door) (noSuchSetting setting) (third (notWhole end) (noDoor door || noSuchSetting setting) e)))
 
-  pub commit-closed-exactly : (door : ℕ) → ClosedExactly door (commit door)
+  pub commit-closed-exactly : (door : ℕ) → ClosedExactly door (Commit door)
   commit-closed-exactly door =
-      refused-when (commit door) end 4 (omega arith) (not (openAt door (history xs start)))
+      refused-when (Commit door) end 4 (omega arith) (not (openAt door (history xs start)))
       (λ e. closed-same door (third (unsound end (eqb (length (end .audit)) auditLines)) (noDoor door) e))
 
-  pub abandon-closed-exactly : (door : ℕ) → ClosedExactly door (abandon door)
+  pub abandon-closed-exactly : (door : ℕ) → ClosedExactly door (Call door Abandon)
   abandon-closed-exactly door =
-      refused-when (abandon door) end 4 (omega arith) (not (openAt door (history xs start))) (λ e. closed-same door (third (notWhole end) (noDoor door) e))
+      refused-when (Call door Abandon) end 4 (omega arith) (not (openAt door (history xs start))) (λ e. closed-same door (third (notWhole end) (noDoor door) e))

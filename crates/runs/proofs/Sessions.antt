@@ -33,29 +33,22 @@ use Rattle.doors.proofs.Force.{unstaged-stands}
 use Rattle.doors.proofs.Stays.{session-each, read-sound, staged-sound}
 use Rattle.panel.specs.Panel.{startRefusal, startOf}
 use Rattle.doors.specs.Doors.{noSuchSetting, cellAt, withCell, begun, markedRead, stagedCell, lockMissing, staleB, asStand, overtakenSession, overtakenBy, committedCore}
-use Rattle.runs.specs.Run.{Step, cycle, openLock, shutLock, clear, report, archiveLine, logLine, auditLine, begin, abandon, commit, read, write, World, Reply, plain, value, numberOf, step, verdictOf, corrector, started}
+use Rattle.runs.specs.Run.{Step, Cycle, Turn, Clear, Ask, Call, Commit, Read, Write, World, Reply, plain, numberOf, step, verdictOf, corrector, started, Body}
 use Rattle.runs.proofs.Exactly.{silent}
 use Rattle.runs.proofs.Cells.{OpenSession, open-begun, open-with, open-overtaken, at-set, each-set, stale-set, overtaken-blank, quiet-same, quiet-read}
-use Rattle.runs.proofs.Aside.{Body, world, alone, turnOf, whole, asides}
-use Rattle.runs.proofs.Calls.{AtDoor, stateAt, worldAt, Call, begins, reads, writes, commits, abandons, call-of, outsideOf, readIn, writeIn, commitRows, insideOf, linesIn, forcedBy}
+use Rattle.runs.proofs.Aside.{world, alone, turnOf, whole, asides}
+use Rattle.runs.proofs.Calls.{AtDoor, stateAt, worldAt, AtCall, begins, reads, writes, commits, abandons, call-of, outsideOf, readIn, writeIn, commitRows, insideOf, linesIn, forcedBy}
 use Rattle.runs.proofs.Calls.{begin-outside, abandon-outside, read-outside, write-outside, commit-outside, begin-inside, abandon-inside, read-inside, write-inside, commit-done, commit-ended, commit-refused, forced-sound}
 
 -- ---- how the corrector is built
 
 abbrev forceOf : Step → Body → Session → Body
-forceOf (cycle r) b s = b
-forceOf (openLock lock code) b s = b
-forceOf (shutLock lock) b s = b
-forceOf clear b s = b
-forceOf report b s = b
-forceOf (archiveLine i) b s = b
-forceOf (logLine i) b s = b
-forceOf (auditLine i) b s = b
-forceOf (begin door) b s = b
-forceOf (abandon door) b s = b
-forceOf (commit door) b s = forcedBy door b s
-forceOf (read door setting) b s = b
-forceOf (write door setting v) b s = b
+forceOf (Cycle r) b s = b
+forceOf (Turn turn) b s = b
+forceOf Clear b s = b
+forceOf (Ask question) b s = b
+forceOf (Call door act) b s = b
+forceOf (Commit door) b s = forcedBy door b s
 
 abbrev build : Build corrector
 build = record {
@@ -103,7 +96,7 @@ closed-slot = refl
 -- ---- each call does what the build says
 
 module _ (b : Body) (t : Option Session) (s : SoundCore (b .core)) (g : Fits OpenSession t) where
-  outside-does : {x : Step} {d : Door} {y : Act} → Call x d y
+  outside-does : {x : Step} {d : Door} {y : Act} → AtCall x d y
       → step x (at-door d b none t) ≡ (at-door d b (start corrector build (opens y (verdictOf (numberOf (outsideOf x b))))) t, outsideOf x b)
   outside-does (begins {d = d} a) =
       rw (held-at d b none t, held-at d b (some begun) t) (begin-outside a b noSession (at-slot t) (whole-at d b none t s tt g) closed-slot)
@@ -144,7 +137,7 @@ module _ (b : Body) (s : Session) (t : Option Session) (c : SoundCore (b .core))
       )
 
   commit-does : {door : ℕ} {d : Door} → AtDoor door d → (n : ℕ) → firstOf (commitRows b s) ≡ n → leb n 12 ≡ true → (z e : Bool) → eqb n 0 ≡ z → leb 10 n ≡ e
-      → Inside (commit door) d Act.commit
+      → Inside (Commit door) d Act.commit
   commit-does {door} {d} a n q l true e z h =
       let o : firstOf (commitRows b s) ≡ 0 = q ∙ eqb-true n 0 z in
       rw (o, held-at d b (some s) t, held-at d (forcedBy door b s) none (overtaken corrector build s t))
@@ -154,13 +147,13 @@ module _ (b : Body) (s : Session) (t : Option Session) (c : SoundCore (b .core))
   commit-does {door} {d} a n q l false false z h =
       rw (q, z, h, held-at d b (some s) t) (commit-refused a b s (at-slot t) (whole-at d b (some s) t c f g) (f .live) n z h q)
 
-  inside-does : {x : Step} {d : Door} {y : Act} → Call x d y → Inside x d y
+  inside-does : {x : Step} {d : Door} {y : Act} → AtCall x d y → Inside x d y
   inside-does (begins {d = d} a) = rw (held-at d b (some s) t) (begin-inside a b s (at-slot t) (whole-at d b (some s) t c f g) (f .live))
   inside-does (reads {door = door} {setting = setting} {d = d} a) =
-      rw (held-at d b (some s) t, held-at d b (some ((insideOf (read door setting) b s) .0)) t)
+      rw (held-at d b (some s) t, held-at d b (some ((insideOf (Call door (Read setting)) b s) .0)) t)
       (read-inside a b s (at-slot t) (whole-at d b (some s) t c f g) (f .live) setting)
   inside-does (writes {door = door} {setting = setting} {v = v} {d = d} a) =
-      rw (held-at d b (some s) t, held-at d b (some ((insideOf (write door setting v) b s) .0)) t)
+      rw (held-at d b (some s) t, held-at d b (some ((insideOf (Call door (Write setting v)) b s) .0)) t)
       (write-inside a b s (at-slot t) (whole-at d b (some s) t c f g) (f .live) setting v)
   inside-does (commits {door = door} {d = d} a) =
       let n = firstOf (commitRows b s) in
@@ -174,7 +167,7 @@ abbrev Alike : Session → Body → Body → Type 0
 Alike s b e = (k : ℕ) → getD (s .cells) k blankCell .read ≡ true → valueAt (b .core .settings) k ≡ valueAt (e .core .settings) k
 
 -- a begin that is done is the only call that opens a session
-opens-same : {x : Step} {d : Door} {y : Act} → Call x d y → (b e : Body) → opens y (verdictOf (numberOf (outsideOf x b))) ≡ true → outsideOf x e ≡ outsideOf x b
+opens-same : {x : Step} {d : Door} {y : Act} → AtCall x d y → (b e : Body) → opens y (verdictOf (numberOf (outsideOf x b))) ≡ true → outsideOf x e ≡ outsideOf x b
 opens-same (begins a) b e q = refl
 opens-same (reads a) b e q = absurd (false≢true q)
 opens-same (writes a) b e q = absurd (false≢true q)
@@ -191,22 +184,22 @@ in-table setting e =
 -- ---- read
 
 module _ (setting : ℕ) (b : Body) (s : Session) where
-  read-open : OpenSession s → (n : Bool) → noSuchSetting setting ≡ n → OpenSession ((cond n (s, value 3 (Whole (pos 0))) (readIn setting b s)) .0)
+  read-open : OpenSession s → (n : Bool) → noSuchSetting setting ≡ n → OpenSession ((cond n (s, plain 3) (readIn setting b s)) .0)
   unfolding cellAt
   read-open f true q = f
   read-open f false q =
       open-with s setting (markedRead (cellAt s setting)) f
       (read-sound (s .live) (setting - 1) (cellAt s setting) (f .live) (session-each s (f .whole) (setting - 1) (in-table setting q)))
 
-  read-alike : (e : Body) (n : Bool) → Alike ((cond n (s, value 3 (Whole (pos 0))) (readIn setting b s)) .0) b e → Alike s b e
+  read-alike : (e : Body) (n : Bool) → Alike ((cond n (s, plain 3) (readIn setting b s)) .0) b e → Alike s b e
   unfolding withCell markedRead
   read-alike e true h k r = h k r
   read-alike e false h k r =
       h k (each-set (λ j c. getD (s .cells) j blankCell .read ≡ true → c .read ≡ true) (s .cells) (setting - 1) (markedRead (cellAt s setting)) (λ q. refl) (λ j q. q) k r)
 
   read-same : (e : Body) → OpenSession s → (n : Bool) → noSuchSetting setting ≡ n
-      → Alike ((cond n (s, value 3 (Whole (pos 0))) (readIn setting b s)) .0) b e
-      → cond n (s, value 3 (Whole (pos 0))) (readIn setting e s) ≡ cond n (s, value 3 (Whole (pos 0))) (readIn setting b s)
+      → Alike ((cond n (s, plain 3) (readIn setting b s)) .0) b e
+      → cond n (s, plain 3) (readIn setting e s) ≡ cond n (s, plain 3) (readIn setting b s)
   unfolding withCell markedRead
   read-same e f true q h = refl
   read-same e f false q h =
@@ -215,7 +208,7 @@ module _ (setting : ℕ) (b : Body) (s : Session) where
       let r : getD (set (s .cells) (setting - 1) x) (setting - 1) blankCell .read ≡ true = ap (λ (c : Cell). c .read) (getD-set-same (s .cells) (setting - 1) x blankCell l) in
       rw (h (setting - 1) r)
 
-  read-stale : (n : Bool) → staleB (s .cells) ≡ true → staleB ((cond n (s, value 3 (Whole (pos 0))) (readIn setting b s)) .0 .cells) ≡ true
+  read-stale : (n : Bool) → staleB (s .cells) ≡ true → staleB ((cond n (s, plain 3) (readIn setting b s)) .0 .cells) ≡ true
   unfolding withCell cellAt markedRead
   read-stale true h = h
   read-stale false h = stale-set (s .cells) (setting - 1) (markedRead (cellAt s setting)) refl ∙ h
@@ -283,7 +276,7 @@ module _ (n : ℕ) where
   abbrev Fated : Act → Step → Body → Session → Fate → Type 0
   Fated y x b s k = fateOf corrector build y x b s ≡ k
 
-  force-good : {x : Step} {d : Door} {y : Act} → Call x d y → (b : Body) (s : Session) → GoodBody n b → OpenSession s → Fated y x b s committed → GoodBody n (forceOf x b s)
+  force-good : {x : Step} {d : Door} {y : Act} → AtCall x d y → (b : Body) (s : Session) → GoodBody n b → OpenSession s → Fated y x b s committed → GoodBody n (forceOf x b s)
   force-good (begins a) b s g f q = absurd (not-committed refl q)
   force-good (reads a) b s g f q = absurd (not-committed refl q)
   force-good (writes a) b s g f q = absurd (not-committed refl q)
@@ -294,21 +287,21 @@ module _ (n : ℕ) where
       }
   force-good (abandons a) b s g f q = absurd (not-dropped refl q)
 
-  inside-open : {x : Step} {d : Door} {y : Act} → Call x d y → (b : Body) (s : Session) → OpenSession s → OpenSession ((insideOf x b s) .0)
+  inside-open : {x : Step} {d : Door} {y : Act} → AtCall x d y → (b : Body) (s : Session) → OpenSession s → OpenSession ((insideOf x b s) .0)
   inside-open (begins a) b s f = f
   inside-open (reads {setting = setting} a) b s f = read-open setting b s f (noSuchSetting setting) refl
   inside-open (writes {setting = setting} {v = v} a) b s f = write-open setting v s f (noSuchSetting setting) (fitsB (setting - 1) v) refl refl
   inside-open (commits a) b s f = f
   inside-open (abandons a) b s f = f
 
-  inside-alike : {x : Step} {d : Door} {y : Act} → Call x d y → (s : Session) (b e : Body) → Alike ((insideOf x b s) .0) b e → Alike s b e
+  inside-alike : {x : Step} {d : Door} {y : Act} → AtCall x d y → (s : Session) (b e : Body) → Alike ((insideOf x b s) .0) b e → Alike s b e
   inside-alike (begins a) s b e h = h
   inside-alike (reads {setting = setting} a) s b e h = read-alike setting b s e (noSuchSetting setting) h
   inside-alike (writes {setting = setting} {v = v} a) s b e h = write-alike setting v s b e (noSuchSetting setting) (fitsB (setting - 1) v) h
   inside-alike (commits a) s b e h = h
   inside-alike (abandons a) s b e h = h
 
-  inside-same : {x : Step} {d : Door} {y : Act} → Call x d y → (s : Session) (b e : Body) → GoodBody n b → GoodBody n e → OpenSession s → Fated y x b s goesOn
+  inside-same : {x : Step} {d : Door} {y : Act} → AtCall x d y → (s : Session) (b e : Body) → GoodBody n b → GoodBody n e → OpenSession s → Fated y x b s goesOn
       → Alike ((insideOf x b s) .0) b e → insideOf x e s ≡ insideOf x b s
   inside-same (begins a) s b e g h f q w = refl
   inside-same (reads {setting = setting} a) s b e g h f q w = read-same setting b s e f (noSuchSetting setting) refl w
@@ -317,14 +310,14 @@ module _ (n : ℕ) where
       rw (commit-same b e s (h .sized ∙ sym (g .sized)) (eqb (length (b .audit)) auditLines) refl q)
   inside-same (abandons a) s b e g h f q w = refl
 
-  inside-stale : {x : Step} {d : Door} {y : Act} → Call x d y → (b : Body) (s : Session) → staleB (s .cells) ≡ true → staleB ((insideOf x b s) .0 .cells) ≡ true
+  inside-stale : {x : Step} {d : Door} {y : Act} → AtCall x d y → (b : Body) (s : Session) → staleB (s .cells) ≡ true → staleB ((insideOf x b s) .0 .cells) ≡ true
   inside-stale (begins a) b s h = h
   inside-stale (reads {setting = setting} a) b s h = read-stale setting b s (noSuchSetting setting) h
   inside-stale (writes {setting = setting} {v = v} a) b s h = write-stale setting v s (noSuchSetting setting) (fitsB (setting - 1) v) h
   inside-stale (commits a) b s h = h
   inside-stale (abandons a) b s h = h
 
-  stale-out : {x : Step} {d : Door} {y : Act} → Call x d y → (b : Body) (s : Session) → Fated y x b s committed → staleB (s .cells) ≡ true → ⊥
+  stale-out : {x : Step} {d : Door} {y : Act} → AtCall x d y → (b : Body) (s : Session) → Fated y x b s committed → staleB (s .cells) ≡ true → ⊥
   stale-out (begins a) b s q h = not-committed refl q
   stale-out (reads a) b s q h = not-committed refl q
   stale-out (writes a) b s q h = not-committed refl q
@@ -346,7 +339,7 @@ module _ (n : ℕ) where
         λ e h k r. sym (unstaged-stands (b .core .settings) (s .cells) k (quiet-read (s .cells) (t .cells) q (f .sized) k r)) ∙ h k r,
       )
 
-  overtaking : {x : Step} {d : Door} {y : Act} → Call x d y → (b : Body) (s t : Session) → OpenSession t → Fated y x b s committed → Overtaken b (forceOf x b s) s t
+  overtaking : {x : Step} {d : Door} {y : Act} → AtCall x d y → (b : Body) (s t : Session) → OpenSession t → Fated y x b s committed → Overtaken b (forceOf x b s) s t
   overtaking (begins a) b s t f q = absurd (not-committed refl q)
   overtaking (reads a) b s t f q = absurd (not-committed refl q)
   overtaking (writes a) b s t f q = absurd (not-committed refl q)

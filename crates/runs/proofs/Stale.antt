@@ -32,7 +32,7 @@ use Rattle.doors.specs.Doors.{noDoor, noSuchSetting, sessionAt, otherAt, placed
 use Rattle.doors.proofs.Force.{marks-at}
 use Rattle.runs.specs.Exactly.{earlier}
 use Rattle.runs.specs.Rows.{rowsOf, unsound, refusedBy}
-use Rattle.runs.specs.Run.{Step, cycle, openLock, shutLock, clear, report, archiveLine, logLine, auditLine, begin, abandon, commit, read, write, World, Reply, numberOf, step, corrector, started}
+use Rattle.runs.specs.Run.{Step, Cycle, Turn, Clear, Ask, Call, Commit, Begin, Read, Write, Abandon, World, Reply, numberOf, step, corrector, started}
 use Rattle.runs.specs.History.{History, history}
 use Rattle.runs.specs.Stale.{Deed, nothing, begins, commits, reads, writes, deed, beginsAt, commitsAt, readsAt, writesAt, hasRead, hasStaged, otherDoor, overtakenIn, stale}
 use Rattle.runs.proofs.Exactly.{silent}
@@ -219,85 +219,81 @@ each-door P p q (suc (suc (suc n))) e =
     absurd (omega (arith, ltb-false 2 (suc (suc (suc n))) (or-false-right (ltb (suc (suc (suc n))) 1) (ltb 2 (suc (suc (suc n)))) e)))
 
 module _ (w : World) (past : History) (b : Both w past) (a : Reply) (done : eqb (numberOf a) 0 ≡ true) where
-  begin-both : (door : ℕ) → noDoor door ≡ false → Both (after (begin door) w) ((begin door, a) ∷ past)
+  begin-both : (door : ℕ) → noDoor door ≡ false → Both (after (Call door Begin) w) ((Call door Begin, a) ∷ past)
   unfolding withSession placed otherAt
-  begin-both = each-door (λ door. Both (after (begin door) w) ((begin door, a) ∷ past))
+  begin-both = each-door (λ door. Both (after (Call door Begin) w) ((Call door Begin, a) ∷ past))
       (record {
-        keypad = begun-known 1 past (begin 1, a) (rw done);
-        port = idle-known 2 (w .state .port) past (begin 1, a) (rw done (idle-begins 2 1 refl)) (b .port);
+        keypad = begun-known 1 past (Call 1 Begin, a) (rw done);
+        port = idle-known 2 (w .state .port) past (Call 1 Begin, a) (rw done (idle-begins 2 1 refl)) (b .port);
       })
       (record {
-        keypad = idle-known 1 (w .state .keypad) past (begin 2, a) (rw done (idle-begins 1 2 refl)) (b .keypad);
-        port = begun-known 2 past (begin 2, a) (rw done);
+        keypad = idle-known 1 (w .state .keypad) past (Call 2 Begin, a) (rw done (idle-begins 1 2 refl)) (b .keypad);
+        port = begun-known 2 past (Call 2 Begin, a) (rw done);
       })
 
-  abandon-both : (door : ℕ) → noDoor door ≡ false → Both (after (abandon door) w) ((abandon door, a) ∷ past)
+  abandon-both : (door : ℕ) → noDoor door ≡ false → Both (after (Call door Abandon) w) ((Call door Abandon, a) ∷ past)
   unfolding withSession placed otherAt
-  abandon-both = each-door (λ door. Both (after (abandon door) w) ((abandon door, a) ∷ past))
+  abandon-both = each-door (λ door. Both (after (Call door Abandon) w) ((Call door Abandon, a) ∷ past))
       (record {
-        keypad = none-known 1 ((abandon 1, a) ∷ past);
-        port = idle-known 2 (w .state .port) past (abandon 1, a) (rw done (idle-nothing 2)) (b .port);
+        keypad = none-known 1 ((Call 1 Abandon, a) ∷ past);
+        port = idle-known 2 (w .state .port) past (Call 1 Abandon, a) (rw done (idle-nothing 2)) (b .port);
       })
       (record {
-        keypad = idle-known 1 (w .state .keypad) past (abandon 2, a) (rw done (idle-nothing 1)) (b .keypad);
-        port = none-known 2 ((abandon 2, a) ∷ past);
+        keypad = idle-known 1 (w .state .keypad) past (Call 2 Abandon, a) (rw done (idle-nothing 1)) (b .keypad);
+        port = none-known 2 ((Call 2 Abandon, a) ∷ past);
       })
 
-  read-both : (j : ℕ) → noSuchSetting j ≡ false → (door : ℕ) → noDoor door ≡ false → Both (after (read door j) w) ((read door j, a) ∷ past)
+  read-both : (j : ℕ) → noSuchSetting j ≡ false → (door : ℕ) → noDoor door ≡ false → Both (after (Call door (Read j)) w) ((Call door (Read j), a) ∷ past)
   unfolding readAfter withSession placed otherAt sessionAt
-  read-both j e = each-door (λ door. Both (after (read door j) w) ((read door j, a) ∷ past))
+  read-both j e = each-door (λ door. Both (after (Call door (Read j)) w) ((Call door (Read j), a) ∷ past))
       (record {
-        keypad = read-known 1 (w .state .keypad) past (read 1 j, a) j (rw done) e (b .keypad);
-        port = idle-known 2 (w .state .port) past (read 1 j, a) (rw done (idle-reads 2 1 j refl)) (b .port);
+        keypad = read-known 1 (w .state .keypad) past (Call 1 (Read j), a) j (rw done) e (b .keypad);
+        port = idle-known 2 (w .state .port) past (Call 1 (Read j), a) (rw done (idle-reads 2 1 j refl)) (b .port);
       })
       (record {
-        keypad = idle-known 1 (w .state .keypad) past (read 2 j, a) (rw done (idle-reads 1 2 j refl)) (b .keypad);
-        port = read-known 2 (w .state .port) past (read 2 j, a) j (rw done) e (b .port);
+        keypad = idle-known 1 (w .state .keypad) past (Call 2 (Read j), a) (rw done (idle-reads 1 2 j refl)) (b .keypad);
+        port = read-known 2 (w .state .port) past (Call 2 (Read j), a) j (rw done) e (b .port);
       })
 
-  write-both : (j : ℕ) (v : Value) → noSuchSetting j ≡ false → (door : ℕ) → noDoor door ≡ false → Both (after (write door j v) w) ((write door j v, a) ∷ past)
+  write-both : (j : ℕ) (v : Value) → noSuchSetting j ≡ false → (door : ℕ) → noDoor door ≡ false → Both (after (Call door (Write j v)) w) ((Call door (Write j v), a) ∷ past)
   unfolding writeAfter withSession placed otherAt sessionAt
-  write-both j v e = each-door (λ door. Both (after (write door j v) w) ((write door j v, a) ∷ past))
+  write-both j v e = each-door (λ door. Both (after (Call door (Write j v)) w) ((Call door (Write j v), a) ∷ past))
       (record {
-        keypad = write-known 1 (w .state .keypad) past (write 1 j v, a) j v (rw done) e (b .keypad);
-        port = idle-known 2 (w .state .port) past (write 1 j v, a) (rw done (idle-writes 2 1 j refl)) (b .port);
+        keypad = write-known 1 (w .state .keypad) past (Call 1 (Write j v), a) j v (rw done) e (b .keypad);
+        port = idle-known 2 (w .state .port) past (Call 1 (Write j v), a) (rw done (idle-writes 2 1 j refl)) (b .port);
       })
       (record {
-        keypad = idle-known 1 (w .state .keypad) past (write 2 j v, a) (rw done (idle-writes 1 2 j refl)) (b .keypad);
-        port = write-known 2 (w .state .port) past (write 2 j v, a) j v (rw done) e (b .port);
+        keypad = idle-known 1 (w .state .keypad) past (Call 2 (Write j v), a) (rw done (idle-writes 1 2 j refl)) (b .keypad);
+        port = write-known 2 (w .state .port) past (Call 2 (Write j v), a) j v (rw done) e (b .port);
       })
 
-  commit-both : (door : ℕ) → noDoor door ≡ false → sessionAt (w .state) door .live ≡ true → Both (after (commit door) w) ((commit door, a) ∷ past)
+  commit-both : (door : ℕ) → noDoor door ≡ false → sessionAt (w .state) door .live ≡ true → Both (after (Commit door) w) ((Commit door, a) ∷ past)
   unfolding committed placed otherAt sessionAt
-  commit-both = each-door (λ door. sessionAt (w .state) door .live ≡ true → Both (after (commit door) w) ((commit door, a) ∷ past))
+  commit-both = each-door (λ door. sessionAt (w .state) door .live ≡ true → Both (after (Commit door) w) ((Commit door, a) ∷ past))
       (λ l. record {
-        keypad = none-known 1 ((commit 1, a) ∷ past);
-        port = commit-known 2 (w .state .keypad) (w .state .port) past (commit 1, a) (rw done) l (b .keypad) (b .port);
+        keypad = none-known 1 ((Commit 1, a) ∷ past);
+        port = commit-known 2 (w .state .keypad) (w .state .port) past (Commit 1, a) (rw done) l (b .keypad) (b .port);
       })
       (λ l. record {
-        keypad = commit-known 1 (w .state .port) (w .state .keypad) past (commit 2, a) (rw done) l (b .port) (b .keypad);
-        port = none-known 2 ((commit 2, a) ∷ past);
+        keypad = commit-known 1 (w .state .port) (w .state .keypad) past (Commit 2, a) (rw done) l (b .port) (b .keypad);
+        port = none-known 2 ((Commit 2, a) ∷ past);
       })
 
   done-both : (x : Step) → firstOf (rowsOf x w) ≡ 0 → Both (after x w) ((x, a) ∷ past)
   unfolding cycled turned cleared
-  done-both (cycle r) z = idle-both (cycle r, a) (after (cycle r) w) past (rw done) (record { keypad = b .keypad; port = b .port })
-  done-both (openLock lock code) z = idle-both (openLock lock code, a) (after (openLock lock code) w) past (rw done) (record { keypad = b .keypad; port = b .port })
-  done-both (shutLock lock) z = idle-both (shutLock lock, a) (after (shutLock lock) w) past (rw done) (record { keypad = b .keypad; port = b .port })
-  done-both clear z = idle-both (clear, a) (after clear w) past (rw done) (record { keypad = b .keypad; port = b .port })
-  done-both report z = idle-both (report, a) w past (rw done) b
-  done-both (archiveLine i) z = idle-both (archiveLine i, a) w past (rw done) b
-  done-both (logLine i) z = idle-both (logLine i, a) w past (rw done) b
-  done-both (auditLine i) z = idle-both (auditLine i, a) w past (rw done) b
-  done-both (begin door) z = begin-both door (silent (rowsOf (begin door) w) refl z 3)
-  done-both (abandon door) z = abandon-both door (silent (rowsOf (abandon door) w) refl z 3)
-  done-both (commit door) z =
-      commit-both door (silent (rowsOf (commit door) w) refl z 3) (not-false (sessionAt (w .state) door .live) (silent (rowsOf (commit door) w) refl z 4))
-  done-both (read door j) z =
-      let e = silent (rowsOf (read door j) w) refl z 3 in
+  done-both (Cycle r) z = idle-both (Cycle r, a) (after (Cycle r) w) past (rw done) (record { keypad = b .keypad; port = b .port })
+  done-both (Turn turn) z = idle-both (Turn turn, a) (after (Turn turn) w) past (rw done) (record { keypad = b .keypad; port = b .port })
+  done-both Clear z = idle-both (Clear, a) (after Clear w) past (rw done) (record { keypad = b .keypad; port = b .port })
+  done-both (Ask question) z = idle-both (Ask question, a) w past (rw done) b
+  done-both (Call door Begin) z = begin-both door (silent (rowsOf (Call door Begin) w) refl z 3)
+  done-both (Call door Abandon) z = abandon-both door (silent (rowsOf (Call door Abandon) w) refl z 3)
+  done-both (Commit door) z =
+      commit-both door (silent (rowsOf (Commit door) w) refl z 3) (not-false (sessionAt (w .state) door .live) (silent (rowsOf (Commit door) w) refl z 4))
+  done-both (Call door (Read j)) z =
+      let e = silent (rowsOf (Call door (Read j)) w) refl z 3 in
       read-both j (or-false-right (noDoor door) (noSuchSetting j) e) door (or-false-left (noDoor door) (noSuchSetting j) e)
-  done-both (write door j v) z =
-      let e = silent (rowsOf (write door j v) w) refl z 3 in
+  done-both (Call door (Write j v)) z =
+      let e = silent (rowsOf (Call door (Write j v)) w) refl z 3 in
       write-both j v (or-false-right (noDoor door) (noSuchSetting j) e) door (or-false-left (noDoor door) (noSuchSetting j) e)
 
 -- a refusal leaves the sessions, but that 10, 11 and 12 at a commit end its session
@@ -310,21 +306,14 @@ ended-both w past door b t false e s q = rw (← q) (b .keypad, b .port)
 
 refused-both : (x : Step) (w : World) (n : ℕ) (past : History) → Both w past → Both (refusedBy x w n) past
 unfolding refusedCommit
-refused-both (cycle r) w n past b = b
-refused-both (openLock lock code) w n past b = b
-refused-both (shutLock lock) w n past b = b
-refused-both clear w n past b = b
-refused-both report w n past b = b
-refused-both (archiveLine i) w n past b = b
-refused-both (logLine i) w n past b = b
-refused-both (auditLine i) w n past b = b
-refused-both (begin door) w n past b = b
-refused-both (abandon door) w n past b = b
-refused-both (commit door) w n past b =
-    let (p, q) = ended-both w past door b (eqb door 1) (leb 10 n) refl (refusedBy (commit door) w n .state) refl in
+refused-both (Cycle r) w n past b = b
+refused-both (Turn turn) w n past b = b
+refused-both Clear w n past b = b
+refused-both (Ask question) w n past b = b
+refused-both (Call door act) w n past b = b
+refused-both (Commit door) w n past b =
+    let (p, q) = ended-both w past door b (eqb door 1) (leb 10 n) refl (refusedBy (Commit door) w n .state) refl in
     record { keypad = p; port = q }
-refused-both (read door setting) w n past b = b
-refused-both (write door setting v) w n past b = b
 
 step-both-by : (x : Step) (w : World) (past : History) (a : Reply) (k : ℕ) → firstOf (rowsOf x w) ≡ k → numberOf a ≡ k → (t : Bool) → eqb k 0 ≡ t → Both w past
     → Both (cond t (after x w) (refusedBy x w k)) ((x, a) ∷ past)
@@ -391,10 +380,10 @@ module _ (xs : List Step) (time supcode custcode : ℕ) (archive : List ArchiveL
 
   -- A COMMIT IS REFUSED BY 11 EXACTLY WHEN THE HISTORY CALLS IT STALE, where 1, 3, 4 and 10 do not come first
   pub stale-exactly : (door : ℕ)
-      → (numberOf ((step (commit door) end) .1) ≡ 11) ↔ ((earlier 11 (rowsOf (commit door) end) ≡ false) × (stale door (history xs start) ≡ true))
-  stale-exactly door = refused-when (commit door) end 11 (omega arith) (stale door (history xs start)) same
+      → (numberOf ((step (Commit door) end) .1) ≡ 11) ↔ ((earlier 11 (rowsOf (Commit door) end) ≡ false) × (stale door (history xs start) ≡ true))
+  stale-exactly door = refused-when (Commit door) end 11 (omega arith) (stale door (history xs start)) same
     where
-      same : earlier 11 (rowsOf (commit door) end) ≡ false → staleB (sessionAt (end .state) door .cells) ≡ stale door (history xs start)
+      same : earlier 11 (rowsOf (Commit door) end) ≡ false → staleB (sessionAt (end .state) door .cells) ≡ stale door (history xs start)
       same e =
           let live : Bool = sessionAt (end .state) door .live in
           let (p, q) = passed (unsound end (eqb (length (end .audit)) auditLines)) (noDoor door) (not live) (lockMissing (end .state .core .locks) (sessionAt (end .state) door .cells) || false) e in

@@ -16,22 +16,21 @@ use Rattle.settings.specs.declared.Setting.{Setting}
 use Rattle.state.specs.declared.Counters.{Counters}
 use Rattle.state.specs.State.{nothingCounted, fresh, freshCore}
 use Rattle.state.specs.Card.{firstOf}
-use Rattle.cycle.specs.declared.Brought.{Brought}
+use Rattle.commands.specs.declared.Brought.{Brought}
 use Rattle.cycle.specs.Cycle.{naturalAt, amountsFor, isTooLarge, counted, anyAlarm, alarmsFor, cycledCore, cycled}
 use Rattle.panel.specs.Panel.{turnedCore, turned, cleared, startOf, startRefusal}
 use Rattle.doors.specs.Doors.{placed, withSession, readAfter, writeAfter, committedCore, committed}
 use Rattle.books.specs.declared.ArchiveLine.{ArchiveLine}
 use Rattle.books.specs.declared.LogLine.{LogLine}
 use Rattle.books.specs.declared.AuditLine.{AuditLine}
-use Rattle.runs.specs.Run.{Step, cycle, openLock, shutLock, clear, report, archiveLine, logLine, auditLine, begin, abandon, commit, read, write, World, step, corrector, started}
+use Rattle.runs.specs.Run.{Step, Cycle, Turn, Clear, Ask, Call, Commit, World, step, corrector, started, Body, bodyOf}
 use Rattle.runs.specs.Sums.{Counter, Vm, VmD, Vb, VbD, litresBy, baseBy, putBy, amountOf, putsOn, sumOn, shownBy, shows, rollover}
 use Rattle.runs.specs.Rows.{rowsOf}
-use Rattle.runs.proofs.Aside.{Body, bodyOf}
 use Rattle.runs.proofs.Effects.{after, number-is, world-is, leaves}
 use Rattle.runs.proofs.Exactly.{silent}
 
 abbrev countersIn : Body → Counters
-countersIn b = b .core .counters
+countersIn b = b .core .measured .counters
 
 -- ---- the amounts of an accepted cycle
 
@@ -66,13 +65,13 @@ counted-by Vb k s l b true e = same baseRollover s (k .vb .0) e
 counted-by VbD k s l b false e = same baseRollover s (k .vbd .0) e
 counted-by VbD k s l b true e = more baseRollover s (k .vbd .0) b e
 
-cycle-adds-by : (c : Counter) (r : Brought) (w : World) (s : ℕ) → shows c w ≡ s % rollover c → (t : Bool) → firstOf (rowsOf (cycle r) w) ≡ 0 ⊎ (t ≡ false)
-    → shows c (cond t (after (cycle r) w) w) ≡ (s + cond t (amountOf c (w .state .core .settings) r) 0) % rollover c
+cycle-adds-by : (c : Counter) (r : Brought) (w : World) (s : ℕ) → shows c w ≡ s % rollover c → (t : Bool) → firstOf (rowsOf (Cycle r) w) ≡ 0 ⊎ (t ≡ false)
+    → shows c (cond t (after (Cycle r) w) w) ≡ (s + cond t (amountOf c (w .state .core .settings) r) 0) % rollover c
 unfolding cycled cycledCore
 cycle-adds-by c r w s e true (inl z) =
     let a : List Setting = w .state .core .settings in
-    rw (amounts-are a r (silent (rowsOf (cycle r) w) refl z 14))
-    (counted-by c (w .state .core .counters) s (litresBy a r) (baseBy a r) (anyAlarm (alarmsFor a r)) e)
+    rw (amounts-are a r (silent (rowsOf (Cycle r) w) refl z 14))
+    (counted-by c (w .state .core .measured .counters) s (litresBy a r) (baseBy a r) (anyAlarm (alarmsFor a r)) e)
 cycle-adds-by c r w s e true (inr z) = absurd (true≢false z)
 cycle-adds-by c r w s e false z = same (rollover c) s (shows c w) e
 
@@ -89,23 +88,16 @@ kept c x w s e h = ap (shownBy c) (leaves countersIn x w h) ∙ same (rollover c
 
 step-adds : (c : Counter) (x : Step) (w : World) (s : ℕ) → shows c w ≡ s % rollover c → shows c ((step x w) .0) ≡ (s + putsOn c x w) % rollover c
 unfolding turned turnedCore cleared withSession placed readAfter writeAfter committed committedCore
-step-adds c (cycle r) w s e =
-    let k = firstOf (rowsOf (cycle r) w) in
-    ap (shows c) (world-is (cycle r) w)
+step-adds c (Cycle r) w s e =
+    let k = firstOf (rowsOf (Cycle r) w) in
+    ap (shows c) (world-is (Cycle r) w)
     ∙ cycle-adds-by c r w s e (eqb k 0) (which k (eqb k 0) refl)
-    ∙ ap (λ (j : ℕ). (s + cond (eqb j 0) (amountOf c (w .state .core .settings) r) 0) % rollover c) (sym (number-is (cycle r) w))
-step-adds c (openLock lock code) w s e = kept c (openLock lock code) w s e refl
-step-adds c (shutLock lock) w s e = kept c (shutLock lock) w s e refl
-step-adds c clear w s e = kept c clear w s e refl
-step-adds c report w s e = kept c report w s e refl
-step-adds c (archiveLine i) w s e = kept c (archiveLine i) w s e refl
-step-adds c (logLine i) w s e = kept c (logLine i) w s e refl
-step-adds c (auditLine i) w s e = kept c (auditLine i) w s e refl
-step-adds c (begin door) w s e = kept c (begin door) w s e refl
-step-adds c (abandon door) w s e = kept c (abandon door) w s e refl
-step-adds c (commit door) w s e = kept c (commit door) w s e refl
-step-adds c (read door setting) w s e = kept c (read door setting) w s e refl
-step-adds c (write door setting v) w s e = kept c (write door setting v) w s e refl
+    ∙ ap (λ (j : ℕ). (s + cond (eqb j 0) (amountOf c (w .state .core .settings) r) 0) % rollover c) (sym (number-is (Cycle r) w))
+step-adds c (Turn turn) w s e = kept c (Turn turn) w s e refl
+step-adds c Clear w s e = kept c Clear w s e refl
+step-adds c (Ask question) w s e = kept c (Ask question) w s e refl
+step-adds c (Call door act) w s e = kept c (Call door act) w s e refl
+step-adds c (Commit door) w s e = kept c (Commit door) w s e refl
 
 -- ---- the run
 
@@ -115,7 +107,7 @@ run-adds c (x ∷ xs) w s e =
     run-adds c xs ((step x w) .0) (s + putsOn c x w) (step-adds c x w s e)
     ∙ ap (λ (k : ℕ). k % rollover c) (add-assoc s (putsOn c x w) (sumOn c xs ((step x w) .0)))
 
-fresh-shows : (c : Counter) (t : Bool) (time supcode custcode : ℕ) → shownBy c (cond t (fresh time supcode custcode) (fresh 0 0 0) .core .counters) ≡ 0 % rollover c
+fresh-shows : (c : Counter) (t : Bool) (time supcode custcode : ℕ) → shownBy c (cond t (fresh time supcode custcode) (fresh 0 0 0) .core .measured .counters) ≡ 0 % rollover c
 unfolding fresh freshCore nothingCounted
 fresh-shows Vm true time supcode custcode = refl
 fresh-shows Vm false time supcode custcode = refl

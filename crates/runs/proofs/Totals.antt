@@ -11,9 +11,11 @@ use Rattle.units.specs.Units.{litresRollover, baseRollover, litresShown, baseSh
 use Rattle.books.specs.declared.ArchiveLine.{ArchiveLine}
 use Rattle.books.specs.declared.LogLine.{LogLine}
 use Rattle.books.specs.declared.AuditLine.{AuditLine}
-use Rattle.panel.specs.Panel.{reported, reportRefusal, reportOf}
+use Rattle.panel.specs.Panel.{reported, reportRefusal, reportBy, reportOf}
 use Rattle.panel.proofs.Laws.{total-litres, total-base}
-use Rattle.runs.specs.Run.{Step, report, World, moment, step, corrector, started}
+use Rattle.runs.specs.Run.{Step, Ask, World, giving, step, corrector, started}
+use Rattle.commands.specs.declared.Question.the-variants as question
+use Rattle.commands.specs.declared.Given.the-variants as given
 use Rattle.runs.specs.Sums.{Vm, VmD, Vb, VbD, sumOn}
 use Rattle.runs.proofs.Keeps.{always-whole}
 use Rattle.runs.proofs.Sums.{sums}
@@ -35,20 +37,20 @@ module _ (xs : List Step) (time supcode custcode : ℕ) (archive : List ArchiveL
   end = (run corrector xs start) .1
 
   -- a report after a run is given
-  pub report-given : (step report end) .1 ≡ moment 0 (reported (end .state .core))
-  unfolding reportOf reportRefusal
+  pub report-given : (step (Ask question.Report) end) .1 ≡ giving 0 (given.Report (reported (end .state .core)))
+  unfolding reportBy reportRefusal
   report-given = rw (always-whole xs time supcode custcode archive log audit)
 
   -- ITS VmT IS THE SUM OF BOTH COUNTERS' SUMS, under the rollover
   pub total-measured : reported (end .state .core) .vmt ≡ litresShown (sumOn Vm xs start + sumOn VmD xs start)
   total-measured =
       total-litres (end .state .core) (sumOn Vm xs start) (sumOn VmD xs start)
-      (litres-shown (end .state .core .counters .vm) (sumOn Vm xs start) (sums Vm xs time supcode custcode archive log audit))
-      (litres-shown (end .state .core .counters .vmd) (sumOn VmD xs start) (sums VmD xs time supcode custcode archive log audit))
+      (litres-shown (end .state .core .measured .counters .vm) (sumOn Vm xs start) (sums Vm xs time supcode custcode archive log audit))
+      (litres-shown (end .state .core .measured .counters .vmd) (sumOn VmD xs start) (sums VmD xs time supcode custcode archive log audit))
 
   -- AND ITS VbT
   pub total-at-base : reported (end .state .core) .vbt ≡ baseShown (sumOn Vb xs start + sumOn VbD xs start)
   total-at-base =
       total-base (end .state .core) (sumOn Vb xs start) (sumOn VbD xs start)
-      (base-shown (end .state .core .counters .vb) (sumOn Vb xs start) (sums Vb xs time supcode custcode archive log audit))
-      (base-shown (end .state .core .counters .vbd) (sumOn VbD xs start) (sums VbD xs time supcode custcode archive log audit))
+      (base-shown (end .state .core .measured .counters .vb) (sumOn Vb xs start) (sums Vb xs time supcode custcode archive log audit))
+      (base-shown (end .state .core .measured .counters .vbd) (sumOn VbD xs start) (sums VbD xs time supcode custcode archive log audit))

@@ -7,7 +7,7 @@ use mathlib.Core.List.{List, [], _∷_, reverse}
 use lib.Dec.{leb, eqb}
 use Rattle.order.specs.Order.{trace}
 use Rattle.calendar.specs.Calendar.{endOfTime}
-use Rattle.runs.specs.Run.{Step, cycle, openLock, shutLock, clear, report, archiveLine, logLine, auditLine, begin, abandon, commit, read, write, World, Reply, numberOf, corrector}
+use Rattle.runs.specs.Run.{Step, onCycle, World, Reply, numberOf, corrector}
 
 abbrev pub History : Type 0
 History = List (Step × Reply)
@@ -24,19 +24,7 @@ done x = eqb (numberOf (x .1)) 0
 
 -- an accepted step, t being the time before it: a cycle brings its own
 abbrev pub timeBy : Step → ℕ → ℕ
-timeBy (cycle r) t = r .time
-timeBy (openLock lock code) t = t
-timeBy (shutLock lock) t = t
-timeBy clear t = t
-timeBy report t = t
-timeBy (archiveLine i) t = t
-timeBy (logLine i) t = t
-timeBy (auditLine i) t = t
-timeBy (begin door) t = t
-timeBy (abandon door) t = t
-timeBy (commit door) t = t
-timeBy (read door setting) t = t
-timeBy (write door setting v) t = t
+timeBy x t = onCycle (λ r. r .time) t x
 
 -- the time of the last accepted cycle, and t where there was none
 abbrev pub lastTime : ℕ → History → ℕ

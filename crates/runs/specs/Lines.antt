@@ -1,7 +1,7 @@
 -- What a run writes into the three stores, line by line. Document 01, "Books" and "One measuring cycle", 1 and 7.
 -- Assumes nothing.
 use Prim.Native.Nat.{ℕ, zero, suc, _+_, _%_}
-use mathlib.Core.Bool.{true, false, cond}
+use mathlib.Core.Bool.{cond}
 use mathlib.Core.List.{List, [], _∷_, _++_}
 use Rattle.calendar.specs.Calendar.{monthOf}
 use Rattle.ring.specs.declared.Ring.{Ring}
@@ -15,7 +15,7 @@ use Rattle.notes.specs.Notes.{logged}
 use Rattle.cycle.specs.Cycle.{monthLines, alarmsFor, changes}
 use Rattle.panel.specs.Panel.{turnCodes}
 use Rattle.doors.specs.Doors.{commitLines}
-use Rattle.runs.specs.Run.{Step, cycle, openLock, shutLock, clear, report, archiveLine, logLine, auditLine, begin, abandon, commit, read, write, World, step}
+use Rattle.runs.specs.Run.{Step, Cycle, Turn, Clear, Ask, Call, Commit, onCycle, World, step, lockOf, opensIt}
 use Rattle.runs.specs.Sums.{accepted}
 
 -- A store: how many lines it can hold, what the state says of it, what is in it, and which lines an accepted step writes, oldest first.
@@ -30,19 +30,7 @@ pub record Shelf : Type 1 where
 -- ---- the archive: an accepted cycle writes a line for every month crossed
 
 abbrev pub archiveBy : Step → World → List ArchiveLine
-archiveBy (cycle r) w = monthLines (w .state .core .counters) (w .state .core .month) (monthOf (r .time))
-archiveBy (openLock lock code) w = []
-archiveBy (shutLock lock) w = []
-archiveBy clear w = []
-archiveBy report w = []
-archiveBy (archiveLine i) w = []
-archiveBy (logLine i) w = []
-archiveBy (auditLine i) w = []
-archiveBy (begin door) w = []
-archiveBy (abandon door) w = []
-archiveBy (commit door) w = []
-archiveBy (read door setting) w = []
-archiveBy (write door setting v) w = []
+archiveBy x w = onCycle (λ r. monthLines (w .state .core .measured .counters) (w .state .core .measured .month) (monthOf (r .time))) [] x
 
 abbrev pub archiveShelf : Shelf
 archiveShelf = record {
@@ -57,19 +45,12 @@ archiveShelf = record {
 -- ---- the logbook: the alarms that came or went, at the cycle's own time; a lock that opened or shut, at the time of the last cycle
 
 abbrev pub logBy : Step → World → List LogLine
-logBy (cycle r) w = logged (w .state .core .log) (r .time) (changes (w .state .core .alarms) (alarmsFor (w .state .core .settings) r))
-logBy (openLock lock code) w = logged (w .state .core .log) (w .state .core .time) (turnCodes (w .state .core .locks) lock true)
-logBy (shutLock lock) w = logged (w .state .core .log) (w .state .core .time) (turnCodes (w .state .core .locks) lock false)
-logBy clear w = []
-logBy report w = []
-logBy (archiveLine i) w = []
-logBy (logLine i) w = []
-logBy (auditLine i) w = []
-logBy (begin door) w = []
-logBy (abandon door) w = []
-logBy (commit door) w = []
-logBy (read door setting) w = []
-logBy (write door setting v) w = []
+logBy (Cycle r) w = logged (w .state .core .log) (r .time) (changes (w .state .core .measured .alarms) (alarmsFor (w .state .core .settings) r))
+logBy (Turn turn) w = logged (w .state .core .log) (w .state .core .measured .time) (turnCodes (w .state .core .locks) (lockOf turn) (opensIt turn))
+logBy Clear w = []
+logBy (Ask question) w = []
+logBy (Call door act) w = []
+logBy (Commit door) w = []
 
 abbrev pub logShelf : Shelf
 logShelf = record {
@@ -84,19 +65,12 @@ logShelf = record {
 -- ---- the audit trail: one line for each setting that a commit puts in force
 
 abbrev pub auditBy : Step → World → List AuditLine
-auditBy (cycle r) w = []
-auditBy (openLock lock code) w = []
-auditBy (shutLock lock) w = []
-auditBy clear w = []
-auditBy report w = []
-auditBy (archiveLine i) w = []
-auditBy (logLine i) w = []
-auditBy (auditLine i) w = []
-auditBy (begin door) w = []
-auditBy (abandon door) w = []
-auditBy (commit door) w = commitLines (w .state) door
-auditBy (read door setting) w = []
-auditBy (write door setting v) w = []
+auditBy (Cycle r) w = []
+auditBy (Turn turn) w = []
+auditBy Clear w = []
+auditBy (Ask question) w = []
+auditBy (Call door act) w = []
+auditBy (Commit door) w = commitLines (w .state) door
 
 abbrev pub auditShelf : Shelf
 auditShelf = record {

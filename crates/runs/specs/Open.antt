@@ -5,7 +5,7 @@ use Prim.Native.Nat.{ℕ}
 use mathlib.Core.Bool.{Bool, true, false, cond, _&&_, _||_}
 use mathlib.Core.List.{[], _∷_}
 use lib.Dec.{eqb}
-use Rattle.runs.specs.Run.{Step, cycle, openLock, shutLock, clear, report, archiveLine, logLine, auditLine, begin, abandon, commit, read, write, numberOf}
+use Rattle.runs.specs.Run.{Step, Cycle, Turn, Clear, Ask, Call, Commit, Begin, Read, Write, Abandon, numberOf}
 use Rattle.runs.specs.History.{History}
 
 -- the refusals of a commit that also end its session
@@ -14,19 +14,15 @@ endsRefused n = eqb n 10 || (eqb n 11 || eqb n 12)
 
 -- whether a session is open at the door after a step that had the number n, by whether one was before it
 abbrev pub openAfter : ℕ → Step → ℕ → Bool → Bool
-openAfter door (cycle r) n before = before
-openAfter door (openLock lock code) n before = before
-openAfter door (shutLock lock) n before = before
-openAfter door clear n before = before
-openAfter door report n before = before
-openAfter door (archiveLine i) n before = before
-openAfter door (logLine i) n before = before
-openAfter door (auditLine i) n before = before
-openAfter door (begin d) n before = cond (eqb n 0 && eqb d door) true before
-openAfter door (abandon d) n before = cond (eqb n 0 && eqb d door) false before
-openAfter door (commit d) n before = cond ((eqb n 0 || endsRefused n) && eqb d door) false before
-openAfter door (read d setting) n before = before
-openAfter door (write d setting v) n before = before
+openAfter door (Cycle r) n before = before
+openAfter door (Turn turn) n before = before
+openAfter door Clear n before = before
+openAfter door (Ask question) n before = before
+openAfter door (Call d Begin) n before = cond (eqb n 0 && eqb d door) true before
+openAfter door (Call d Abandon) n before = cond (eqb n 0 && eqb d door) false before
+openAfter door (Commit d) n before = cond ((eqb n 0 || endsRefused n) && eqb d door) false before
+openAfter door (Call d (Read setting)) n before = before
+openAfter door (Call d (Write setting v)) n before = before
 
 -- newest first, a begin that was done at the door comes before anything that ended a session there
 abbrev pub openAt : ℕ → History → Bool

@@ -1,135 +1,90 @@
--- A run: steps, each one call of a public function, on a device with its three stores. Each step goes to the definition that the contract of
--- its function cites, and to nothing else. A start is no step: a run begins with a device that was started.
+-- A run: steps, each one command, on a device with its three stores. What a step comes to is said in the crate `steps`, in the definition that the
+-- contracts of the program's own functions cite. A start is no step: a run begins with a device that was started.
 -- Assumes nothing.
 use Prim.Native.Nat.{ℕ}
-use mathlib.Core.Bool.{cond, _&&_}
+use mathlib.Core.Bool.{Bool, true, false, cond, _&&_}
 use mathlib.Core.List.{List}
 use lib.Dec.{leb, eqb}
-use Rattle.order.specs.Order.{keypad, port, Act, Role, aside, at, Verdict, done, ended, refused, Device}
-use Rattle.settings.specs.declared.Value.{Value}
+use Rattle.order.specs.Order.{keypad, port, Role, aside, at, Verdict, done, ended, refused, Device}
+use Rattle.order.specs.Order as order
 use Rattle.books.specs.declared.ArchiveLine.{ArchiveLine}
 use Rattle.books.specs.declared.LogLine.{LogLine}
 use Rattle.books.specs.declared.AuditLine.{AuditLine}
-use Rattle.state.specs.declared.Answer.{Answer}
-use Rattle.state.specs.declared.Moment.{Moment}
-use Rattle.state.specs.declared.State.{State}
+use Rattle.state.specs.declared.Core.{Core}
 use Rattle.state.specs.State.{noSession}
-use Rattle.cycle.specs.declared.Brought.{Brought}
-use Rattle.cycle.specs.Cycle.{Outcome, cycleOf}
-use Rattle.panel.specs.declared.ReportAnswer.{ReportAnswer}
-use Rattle.panel.specs.declared.LogAnswer.{LogAnswer}
-use Rattle.panel.specs.declared.ArchiveAnswer.{ArchiveAnswer}
-use Rattle.panel.specs.Panel.{Logged, startOf, openOf, shutOf, clearOf, reportOf, logLineOf, archiveLineOf}
-use Rattle.doors.specs.declared.ReadAnswer.{ReadAnswer}
-use Rattle.doors.specs.declared.AuditAnswer.{AuditAnswer}
-use Rattle.doors.specs.Doors.{Audited, noDoor, beginOf, abandonOf, readOf, writeOf, commitOf, auditLineOf}
+use Rattle.commands.specs.declared.Brought.{Brought}
+use Rattle.panel.specs.Panel.{startOf}
+use Rattle.doors.specs.Doors.{noDoor}
+pub use Rattle.commands.specs.declared.LockTurn.{LockTurn}
+pub use Rattle.commands.specs.declared.LockTurn.the-variants.{Open, Shut}
+pub use Rattle.commands.specs.declared.Question.{Question}
+pub use Rattle.commands.specs.declared.Act.{Act}
+pub use Rattle.commands.specs.declared.Act.the-variants.{Begin, Read, Write, Abandon}
+pub use Rattle.commands.specs.declared.Command.{Command}
+pub use Rattle.commands.specs.declared.Command.the-variants.{Cycle, Turn, Clear, Ask, Call, Commit}
+pub use Rattle.commands.specs.declared.Given.{Given}
+pub use Rattle.commands.specs.declared.Reply.{Reply}
+pub use Rattle.commands.specs.Answers.{World, plain, giving}
+pub use Rattle.steps.specs.Step.{withState, answers, cycles, logs, audits, lockTurned, replyTo, calledBy, callOf, step}
 
--- ---- steps
-
--- the calls, by what they are given: of a cycle its time, pulse count and readings; of a lock its number and the code; of a line its number;
--- of a session step the door, then setting and value
-pub data Step : Type 0 where
-  cycle : Brought → Step
-  openLock : ℕ → ℕ → Step
-  shutLock : ℕ → Step
-  clear report : Step
-  archiveLine logLine auditLine : ℕ → Step
-  begin abandon commit : ℕ → Step
-  read : ℕ → ℕ → Step
-  write : ℕ → ℕ → Value → Step
-
--- a device with its three stores, which nobody else writes
-pub record World : Type 0 where
-  pub state : State
-  pub archive : List ArchiveLine
-  pub log : List LogLine
-  pub audit : List AuditLine
-
--- what a call answers beside the state: its number on the fault card and, of some, a value
-pub data Reply : Type 0 where
-  plain : ℕ → Reply
-  value : ℕ → Value → Reply
-  moment : ℕ → Moment → Reply
-  archived : ℕ → ArchiveLine → Reply
-  logged : ℕ → LogLine → Reply
-  audited : ℕ → AuditLine → Reply
+abbrev pub Step : Type 0
+Step = Command
 
 abbrev pub numberOf : Reply → ℕ
-numberOf (plain n) = n
-numberOf (value n v) = n
-numberOf (moment n m) = n
-numberOf (archived n x) = n
-numberOf (logged n x) = n
-numberOf (audited n x) = n
-
--- the world after an answer; the stores that a call is not lent stay
-abbrev pub answers : World → Answer → World × Reply
-answers w a = (record { state = a .state; archive = w .archive; log = w .log; audit = w .audit }, plain (a .number))
-
-abbrev pub cycles : World → Outcome → World × Reply
-cycles w o = (record { state = o .answer .state; archive = o .archive; log = o .log; audit = w .audit }, plain (o .answer .number))
-
-abbrev pub logs : World → Logged → World × Reply
-logs w o = (record { state = o .answer .state; archive = w .archive; log = o .log; audit = w .audit }, plain (o .answer .number))
-
-abbrev pub audits : World → Audited → World × Reply
-audits w o = (record { state = o .answer .state; archive = w .archive; log = w .log; audit = o .audit }, plain (o .answer .number))
-
-abbrev pub reads : World → ReadAnswer → World × Reply
-reads w a = (record { state = a .state; archive = w .archive; log = w .log; audit = w .audit }, value (a .number) (a .value))
-
-abbrev pub reports : World → ReportAnswer → World × Reply
-reports w a = (w, moment (a .number) (a .report))
-
-abbrev pub archiveShows : World → ArchiveAnswer → World × Reply
-archiveShows w a = (w, archived (a .number) (a .line))
-
-abbrev pub logShows : World → LogAnswer → World × Reply
-logShows w a = (w, logged (a .number) (a .line))
-
-abbrev pub auditShows : World → AuditAnswer → World × Reply
-auditShows w a = (w, audited (a .number) (a .line))
-
-abbrev pub step : Step → World → World × Reply
-step (cycle r) w = cycles w (cycleOf (w .state) r (w .archive) (w .log))
-step (openLock lock code) w = logs w (openOf (w .state) lock code (w .log))
-step (shutLock lock) w = logs w (shutOf (w .state) lock (w .log))
-step clear w = answers w (clearOf (w .state))
-step report w = reports w (reportOf (w .state))
-step (archiveLine i) w = archiveShows w (archiveLineOf (w .state) i (w .archive))
-step (logLine i) w = logShows w (logLineOf (w .state) i (w .log))
-step (auditLine i) w = auditShows w (auditLineOf (w .state) i (w .audit))
-step (begin door) w = answers w (beginOf (w .state) door)
-step (abandon door) w = answers w (abandonOf (w .state) door)
-step (commit door) w = audits w (commitOf (w .state) door (w .audit))
-step (read door setting) w = reads w (readOf (w .state) door setting)
-step (write door setting v) w = answers w (writeOf (w .state) door setting v)
+numberOf r = r .number
 
 -- a device that was started, with stores of any length and with anything in them
 abbrev pub started : ℕ → ℕ → ℕ → List ArchiveLine → List LogLine → List AuditLine → World
 started time supcode custcode archive log audit =
     record { state = startOf time supcode custcode .state; archive = archive; log = log; audit = audit }
 
+-- all that is no session: the core and the stores
+pub record Body : Type 0 where
+  pub core : Core
+  pub archive : List ArchiveLine
+  pub log : List LogLine
+  pub audit : List AuditLine
+
+abbrev pub bodyOf : World → Body
+bodyOf w = record { core = w .state .core; archive = w .archive; log = w .log; audit = w .audit }
+
+-- what is said of a cycle, and of any other command
+abbrev pub onCycle : {A : Type 0} → (Brought → A) → A → Step → A
+onCycle f d (Cycle r) = f r
+onCycle f d (Turn turn) = d
+onCycle f d Clear = d
+onCycle f d (Ask question) = d
+onCycle f d (Call door act) = d
+onCycle f d (Commit door) = d
+
+-- which lock is turned, and whether to open
+abbrev pub lockOf : LockTurn → ℕ
+lockOf (Open lock code) = lock
+lockOf (Shut lock) = lock
+
+abbrev pub opensIt : LockTurn → Bool
+opensIt (Open lock code) = true
+opensIt (Shut lock) = false
+
 -- ---- what a step is to the sessions
 
 -- a call whose door is not 1..2 is no session's
-abbrev pub roleAt : ℕ → Act → Role
+abbrev pub roleAt : ℕ → order.Act → Role
 roleAt door y = cond (noDoor door) aside (at (cond (eqb door 1) keypad port) y)
 
+abbrev pub actOf : Act → order.Act
+actOf Begin = order.Act.begin
+actOf (Read setting) = order.Act.read
+actOf (Write setting v) = order.Act.write
+actOf Abandon = order.Act.abandon
+
 abbrev pub role : Step → Role
-role (cycle r) = aside
-role (openLock lock code) = aside
-role (shutLock lock) = aside
-role clear = aside
-role report = aside
-role (archiveLine i) = aside
-role (logLine i) = aside
-role (auditLine i) = aside
-role (begin door) = roleAt door Act.begin
-role (abandon door) = roleAt door Act.abandon
-role (commit door) = roleAt door Act.commit
-role (read door setting) = roleAt door Act.read
-role (write door setting v) = roleAt door Act.write
+role (Cycle r) = aside
+role (Turn turn) = aside
+role Clear = aside
+role (Ask question) = aside
+role (Call door act) = roleAt door (actOf act)
+role (Commit door) = roleAt door order.Act.commit
 
 -- 10, 11 and 12 at a commit also end its session
 abbrev pub verdictOf : ℕ → Verdict
@@ -137,12 +92,7 @@ verdictOf n = cond (eqb n 0) done (cond (leb 10 n && leb n 12) ended refused)
 
 -- the state with its unfinished sessions taken away
 abbrev pub closed : World → World
-closed w = record {
-  state = record { core = w .state .core; keypad = noSession; port = noSession };
-  archive = w .archive;
-  log = w .log;
-  audit = w .audit;
-}
+closed w = withState w (record { core = w .state .core; keypad = noSession; port = noSession })
 
 abbrev pub corrector : Device
 corrector = record {

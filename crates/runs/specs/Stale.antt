@@ -7,7 +7,7 @@ use mathlib.Core.List.{[], _∷_}
 use lib.Dec.{eqb}
 use Rattle.ground.specs.Below.{anyBelow}
 use Rattle.settings.specs.Settings.{settingCount}
-use Rattle.runs.specs.Run.{Step, cycle, openLock, shutLock, clear, report, archiveLine, logLine, auditLine, begin, abandon, commit, read, write, Reply}
+use Rattle.runs.specs.Run.{Step, Cycle, Turn, Clear, Ask, Call, Commit, Begin, Read, Write, Abandon, Reply}
 use Rattle.runs.specs.History.{History, done}
 
 -- ---- what was done
@@ -19,19 +19,15 @@ pub data Deed : Type 0 where
   reads writes : ℕ → ℕ → Deed
 
 abbrev pub deedOf : Step → Deed
-deedOf (cycle r) = nothing
-deedOf (openLock lock code) = nothing
-deedOf (shutLock lock) = nothing
-deedOf clear = nothing
-deedOf report = nothing
-deedOf (archiveLine i) = nothing
-deedOf (logLine i) = nothing
-deedOf (auditLine i) = nothing
-deedOf (begin door) = begins door
-deedOf (abandon door) = nothing
-deedOf (commit door) = commits door
-deedOf (read door setting) = reads door setting
-deedOf (write door setting v) = writes door setting
+deedOf (Cycle r) = nothing
+deedOf (Turn turn) = nothing
+deedOf Clear = nothing
+deedOf (Ask question) = nothing
+deedOf (Call door Begin) = begins door
+deedOf (Call door Abandon) = nothing
+deedOf (Commit door) = commits door
+deedOf (Call door (Read setting)) = reads door setting
+deedOf (Call door (Write setting v)) = writes door setting
 
 -- a step that was refused did nothing
 abbrev pub deed : Step × Reply → Deed

@@ -8,9 +8,9 @@ use lib.Dec.{eqb}
 use Rattle.units.specs.Units.{litresRollover, baseRollover, pulseLitres}
 use Rattle.settings.specs.declared.Setting.{Setting}
 use Rattle.state.specs.declared.Counters.{Counters}
-use Rattle.cycle.specs.declared.Brought.{Brought}
+use Rattle.commands.specs.declared.Brought.{Brought}
 use Rattle.cycle.specs.Cycle.{naturalAt, alarmsFor, anyAlarm, factorFor}
-use Rattle.runs.specs.Run.{Step, cycle, openLock, shutLock, clear, report, archiveLine, logLine, auditLine, begin, abandon, commit, read, write, World, numberOf, step}
+use Rattle.runs.specs.Run.{Step, Cycle, Turn, Clear, Ask, Call, Commit, World, numberOf, step}
 
 pub data Counter : Type 0 where
   Vm VmD Vb VbD : Counter
@@ -43,19 +43,12 @@ accepted x w = eqb (numberOf ((step x w) .1)) 0
 
 -- what a step puts on a counter: an accepted cycle its amount, and anything else nothing
 abbrev pub putsOn : Counter → Step → World → ℕ
-putsOn c (cycle r) w = cond (accepted (cycle r) w) (amountOf c (w .state .core .settings) r) 0
-putsOn c (openLock lock code) w = 0
-putsOn c (shutLock lock) w = 0
-putsOn c clear w = 0
-putsOn c report w = 0
-putsOn c (archiveLine i) w = 0
-putsOn c (logLine i) w = 0
-putsOn c (auditLine i) w = 0
-putsOn c (begin door) w = 0
-putsOn c (abandon door) w = 0
-putsOn c (commit door) w = 0
-putsOn c (read door setting) w = 0
-putsOn c (write door setting v) w = 0
+putsOn c (Cycle r) w = cond (accepted (Cycle r) w) (amountOf c (w .state .core .settings) r) 0
+putsOn c (Turn turn) w = 0
+putsOn c Clear w = 0
+putsOn c (Ask question) w = 0
+putsOn c (Call door act) w = 0
+putsOn c (Commit door) w = 0
 
 -- the sum over a run
 abbrev pub sumOn : Counter → List Step → World → ℕ
@@ -70,7 +63,7 @@ shownBy Vb c = c .vb .0
 shownBy VbD c = c .vbd .0
 
 abbrev pub shows : Counter → World → ℕ
-shows c w = shownBy c (w .state .core .counters)
+shows c w = shownBy c (w .state .core .measured .counters)
 
 abbrev pub rollover : Counter → ℕ
 rollover Vm = litresRollover

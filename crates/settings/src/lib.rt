@@ -4,7 +4,8 @@ ghost use mathlib.Core.Path.{_≡_};
 ghost use lib.ListN.{getD, set};
 ghost use Rattle.settings.specs.Settings.{
   noSetting,
-  rows,
+  wholeRow,
+  floatRow,
   rowOf,
   isFinite,
   withinB,
@@ -25,6 +26,8 @@ use ground::both;
 use ground::either;
 use ground::less;
 use ground::ranges;
+use ground::ranges::COLDEST;
+use ground::ranges::HOTTEST;
 
 // How many settings there are.
 pub const COUNT: usize = 21;
@@ -35,6 +38,25 @@ const CAL: u8 = 1;
 const SUP: u8 = 2;
 
 const CUST: u8 = 3;
+
+// The ends of the ranges that other rules go by too, as signed numbers.
+const LEAST_K: i64 = ranges::LEAST_K as i64;
+
+const MOST_K: i64 = ranges::MOST_K as i64;
+
+const K_SCALE: i64 = ranges::K_SCALE as i64;
+
+const LEAST_P: i64 = ranges::LEAST_P as i64;
+
+const MOST_P: i64 = ranges::MOST_P as i64;
+
+const LEAST_PB: i64 = ranges::LEAST_PB as i64;
+
+const MOST_PB: i64 = ranges::MOST_PB as i64;
+
+const LEAST_TB: i64 = ranges::LEAST_TB as i64;
+
+const MOST_TB: i64 = ranges::MOST_TB as i64;
 
 // The places of the settings that the corrector itself reads.
 pub const CP: usize = 0;
@@ -87,197 +109,58 @@ pub struct Row {
     pub lock: u8,
 }
 
-const ROWS: [Row; COUNT] = [
-    // 1 cp code
-    Row {
-        coefficient: false,
-        lowest: 0,
-        highest: 4,
-        factory: Value::Whole(1),
-        lock: CAL,
-    },
-    // 2 pb, Pa
-    Row {
-        coefficient: false,
-        lowest: ranges::LEAST_PB as i64,
-        highest: ranges::MOST_PB as i64,
-        factory: Value::Whole(101_325),
-        lock: CAL,
-    },
-    // 3 Tb, 0.01 K
-    Row {
-        coefficient: false,
-        lowest: ranges::LEAST_TB as i64,
-        highest: ranges::MOST_TB as i64,
-        factory: Value::Whole(27_315),
-        lock: CAL,
-    },
-    // 4 Md.p
-    Row {
-        coefficient: false,
-        lowest: 0,
-        highest: 1,
-        factory: Value::Whole(1),
-        lock: CAL,
-    },
-    // 5 Md.T
-    Row {
-        coefficient: false,
-        lowest: 0,
-        highest: 1,
-        factory: Value::Whole(1),
-        lock: CAL,
-    },
-    // 6 Md.K
-    Row {
-        coefficient: false,
-        lowest: 0,
-        highest: 1,
-        factory: Value::Whole(0),
-        lock: CAL,
-    },
-    // 7 pMin, Pa
-    Row {
-        coefficient: false,
-        lowest: ranges::LEAST_P as i64,
-        highest: ranges::MOST_P as i64,
-        factory: Value::Whole(90_000),
-        lock: CAL,
-    },
-    // 8 pMax, Pa
-    Row {
-        coefficient: false,
-        lowest: ranges::LEAST_P as i64,
-        highest: ranges::MOST_P as i64,
-        factory: Value::Whole(700_000),
-        lock: CAL,
-    },
-    // 9 TMin, 0.01 °C
-    Row {
-        coefficient: false,
-        lowest: ranges::COLDEST,
-        highest: ranges::HOTTEST,
-        factory: Value::Whole(-2_000),
-        lock: CAL,
-    },
-    // 10 TMax, 0.01 °C
-    Row {
-        coefficient: false,
-        lowest: ranges::COLDEST,
-        highest: ranges::HOTTEST,
-        factory: Value::Whole(6_000),
-        lock: CAL,
-    },
-    // 11 Eq1.T
-    Row {
-        coefficient: true,
-        lowest: 0,
-        highest: 0,
-        factory: Value::Coefficient(-40.0),
-        lock: CAL,
-    },
-    // 12 Eq2.T
-    Row {
-        coefficient: true,
-        lowest: 0,
-        highest: 0,
-        factory: Value::Coefficient(0.0078125),
-        lock: CAL,
-    },
-    // 13 Eq3.T
-    Row {
-        coefficient: true,
-        lowest: 0,
-        highest: 0,
-        factory: Value::Coefficient(0.0),
-        lock: CAL,
-    },
-    // 14 p.F, Pa
-    Row {
-        coefficient: false,
-        lowest: ranges::LEAST_P as i64,
-        highest: ranges::MOST_P as i64,
-        factory: Value::Whole(101_325),
-        lock: SUP,
-    },
-    // 15 T.F, 0.01 °C
-    Row {
-        coefficient: false,
-        lowest: ranges::COLDEST,
-        highest: ranges::HOTTEST,
-        factory: Value::Whole(1_500),
-        lock: SUP,
-    },
-    // 16 K.F, 0.0001
-    Row {
-        coefficient: false,
-        lowest: ranges::LEAST_K as i64,
-        highest: ranges::MOST_K as i64,
-        factory: Value::Whole(ranges::K_SCALE as i64),
-        lock: SUP,
-    },
-    // 17 Ho.b, 0.001 kWh/m³
-    Row {
-        coefficient: false,
-        lowest: 5_000,
-        highest: 14_000,
-        factory: Value::Whole(11_000),
-        lock: SUP,
-    },
-    // 18 CO2, 0.01 %
-    Row {
-        coefficient: false,
-        lowest: 0,
-        highest: 3_000,
-        factory: Value::Whole(100),
-        lock: SUP,
-    },
-    // 19 H2, 0.01 %
-    Row {
-        coefficient: false,
-        lowest: 0,
-        highest: 1_000,
-        factory: Value::Whole(0),
-        lock: SUP,
-    },
-    // 20 Rhob, 0.0001 kg/m³
-    Row {
-        coefficient: false,
-        lowest: 6_000,
-        highest: 12_000,
-        factory: Value::Whole(8_000),
-        lock: SUP,
-    },
-    // 21 customer's number
-    Row {
-        coefficient: false,
-        lowest: 0,
-        highest: 999_999_999,
-        factory: Value::Whole(0),
-        lock: CUST,
-    },
-];
-
-fn table() -> [Row; COUNT]
-    ensures { λ r. ⌜ r ≡ rows ⌝ }
+fn whole_row(lowest: i64, highest: i64, factory: i64, lock: u8) -> Row
+    ensures { λ r. ⌜ r ≡ wholeRow lowest highest factory lock ⌝ }
 {
-    ROWS
+    Row {
+        coefficient: false,
+        lowest: lowest,
+        highest: highest,
+        factory: Value::Whole(factory),
+        lock: lock,
+    }
 }
 
+fn float_row(factory: f64, lock: u8) -> Row
+    ensures { λ r. ⌜ r ≡ floatRow factory lock ⌝ }
+{
+    Row {
+        coefficient: true,
+        lowest: 0,
+        highest: 0,
+        factory: Value::Coefficient(factory),
+        lock: lock,
+    }
+}
+
+// The table: lowest and highest value, factory value, lock; of a coefficient the last two. By a `match`, since a constant array is laid
+// out anew wherever it is named.
 pub fn row_of(k: usize) -> Row
     ensures { λ r. ⌜ r ≡ rowOf k ⌝ }
 {
-    if k < COUNT {
-        let t = table();
-        t[k]
-    } else {
-        Row {
-            coefficient: false,
-            lowest: 0,
-            highest: 0,
-            factory: Value::Whole(0),
-            lock: 0,
-        }
+    match k {
+        0 => whole_row(0, 4, 1, CAL), // 1 cp code
+        1 => whole_row(LEAST_PB, MOST_PB, 101_325, CAL), // 2 pb, Pa
+        2 => whole_row(LEAST_TB, MOST_TB, 27_315, CAL), // 3 Tb, 0.01 K
+        3 => whole_row(0, 1, 1, CAL), // 4 Md.p
+        4 => whole_row(0, 1, 1, CAL), // 5 Md.T
+        5 => whole_row(0, 1, 0, CAL), // 6 Md.K
+        6 => whole_row(LEAST_P, MOST_P, 90_000, CAL), // 7 pMin, Pa
+        7 => whole_row(LEAST_P, MOST_P, 700_000, CAL), // 8 pMax, Pa
+        8 => whole_row(COLDEST, HOTTEST, -2_000, CAL), // 9 TMin, 0.01 °C
+        9 => whole_row(COLDEST, HOTTEST, 6_000, CAL), // 10 TMax, 0.01 °C
+        10 => float_row(-40.0, CAL), // 11 Eq1.T
+        11 => float_row(0.0078125, CAL), // 12 Eq2.T
+        12 => float_row(0.0, CAL), // 13 Eq3.T
+        13 => whole_row(LEAST_P, MOST_P, 101_325, SUP), // 14 p.F, Pa
+        14 => whole_row(COLDEST, HOTTEST, 1_500, SUP), // 15 T.F, 0.01 °C
+        15 => whole_row(LEAST_K, MOST_K, K_SCALE, SUP), // 16 K.F, 0.0001
+        16 => whole_row(5_000, 14_000, 11_000, SUP), // 17 Ho.b, 0.001 kWh/m³
+        17 => whole_row(0, 3_000, 100, SUP), // 18 CO2, 0.01 %
+        18 => whole_row(0, 1_000, 0, SUP), // 19 H2, 0.01 %
+        19 => whole_row(6_000, 12_000, 8_000, SUP), // 20 Rhob, 0.0001 kg/m³
+        20 => whole_row(0, 999_999_999, 0, CUST), // 21 customer's number
+        _ => whole_row(0, 0, 0, 0), // no setting
     }
 }
 
@@ -426,14 +309,11 @@ pub fn right_for(k: usize, cal: bool, sup: bool, cust: bool) -> bool
 pub fn settings_fit(a: [Setting; COUNT]) -> bool
     ensures { λ r. ⌜ r ≡ settingsFitB a ⌝ }
 {
-    // The table is laid out once here, where `row_of` would lay it out anew for each setting.
-    let t = table();
     let mut good = true;
     for k in 0..COUNT {
-        let row = t[k];
         let x = a[k];
         let v = x.value;
-        let fine = row_fits(row, v);
+        let fine = setting_fits(k, v);
         good = both(fine, good);
     }
     good

@@ -13,50 +13,58 @@ use Rattle.settings.proofs.Laws.{factory-fits, factory-ordered}
 use Rattle.calendar.specs.Calendar.{endOfTime, monthOf}
 use Rattle.ring.specs.Ring.{archiveLines, logLines, auditLines, logStep, auditStep, ringAfter, bookAfter, ringB, bookB}
 use Rattle.ring.proofs.Whole.{ring-passes, book-passes, log-common, audit-common}
+use Rattle.state.specs.declared.Measured.{Measured}
 use Rattle.state.specs.declared.Core.{Core}
 use Rattle.state.specs.declared.Locks.{Locks}
 use Rattle.state.specs.declared.State.{State}
-use Rattle.state.specs.State.{noSession, noAlarm, nothingCounted, shutLocks, freshCore, fresh, countersB, latchedB, storesB, cellB, cellsB, sessionB, coreB, wholeB}
+use Rattle.state.specs.State.{noSession, noAlarm, nothingCounted, shutLocks, freshCore, fresh, countersB, latchedB, storesB, measuredB, cellB, cellsB, sessionB, coreB, wholeB}
 
 -- ---- the core
 
+pub record SoundMeasured (m : Measured) : Type 0 where
+  pub in-time : ltb (m .time) endOfTime ≡ true
+  pub counted : countersB (m .counters) ≡ true
+  pub in-month : eqb (m .month) (monthOf (m .time)) ≡ true
+
 pub record SoundCore (c : Core) : Type 0 where
-  pub in-time : ltb (c .time) endOfTime ≡ true
+  pub measured : measuredB (c .measured) ≡ true
   pub fit : settingsFitB (c .settings) ≡ true
   pub ordered : orderedB (c .settings) ≡ true
-  pub counted : countersB (c .counters) ≡ true
-  pub latched : latchedB (c .alarms) (c .latches) ≡ true
-  pub in-month : eqb (c .month) (monthOf (c .time)) ≡ true
+  pub latched : latchedB (c .measured .alarms) (c .latches) ≡ true
   pub archive-held : ringB archiveLines (c .archive) ≡ true
   pub log-held : bookB logLines logStep (c .log) ≡ true
   pub audit-held : bookB auditLines auditStep (c .audit) ≡ true
 
+-- what is said of what was measured, clause by clause
+pub measured-sound : (m : Measured) → measuredB m ≡ true → SoundMeasured m
+unfolding measuredB
+measured-sound m e =
+    let t : Bool = ltb (m .time) endOfTime in
+    let n : Bool = countersB (m .counters) in
+    let o : Bool = eqb (m .month) (monthOf (m .time)) in
+    let two : (t && n) ≡ true = and-left (t && n) o e in
+    record { in-time = and-left t n two; counted = and-right t n two; in-month = and-right (t && n) o e }
+
 pub core-sound : (c : Core) → coreB c ≡ true → SoundCore c
 unfolding coreB storesB
 core-sound c e =
-    let t : Bool = ltb (c .time) endOfTime in
+    let d : Bool = measuredB (c .measured) in
     let f : Bool = settingsFitB (c .settings) in
     let o : Bool = orderedB (c .settings) in
-    let n : Bool = countersB (c .counters) in
-    let l : Bool = latchedB (c .alarms) (c .latches) in
-    let m : Bool = eqb (c .month) (monthOf (c .time)) in
+    let l : Bool = latchedB (c .measured .alarms) (c .latches) in
     let x : Bool = ringB archiveLines (c .archive) in
     let y : Bool = bookB logLines logStep (c .log) in
     let z : Bool = bookB auditLines auditStep (c .audit) in
-    let e6 : (t && f && o && n && l && m) ≡ true = and-left (t && f && o && n && l && m) (x && y && z) e in
-    let e5 : (t && f && o && n && l) ≡ true = and-left (t && f && o && n && l) m e6 in
-    let e4 : (t && f && o && n) ≡ true = and-left (t && f && o && n) l e5 in
-    let e3 : (t && f && o) ≡ true = and-left (t && f && o) n e4 in
-    let e2 : (t && f) ≡ true = and-left (t && f) o e3 in
-    let s3 : (x && y && z) ≡ true = and-right (t && f && o && n && l && m) (x && y && z) e in
+    let e4 : (d && f && o && l) ≡ true = and-left (d && f && o && l) (x && y && z) e in
+    let e3 : (d && f && o) ≡ true = and-left (d && f && o) l e4 in
+    let e2 : (d && f) ≡ true = and-left (d && f) o e3 in
+    let s3 : (x && y && z) ≡ true = and-right (d && f && o && l) (x && y && z) e in
     let s2 : (x && y) ≡ true = and-left (x && y) z s3 in
     record {
-      in-time = and-left t f e2;
-      fit = and-right t f e2;
-      ordered = and-right (t && f) o e3;
-      counted = and-right (t && f && o) n e4;
-      latched = and-right (t && f && o && n) l e5;
-      in-month = and-right (t && f && o && n && l) m e6;
+      measured = and-left d f e2;
+      fit = and-right d f e2;
+      ordered = and-right (d && f) o e3;
+      latched = and-right (d && f && o) l e4;
       archive-held = and-left x y s2;
       log-held = and-right x y s2;
       audit-held = and-right (x && y) z s3;
@@ -65,7 +73,7 @@ core-sound c e =
 pub sound-core : (c : Core) → SoundCore c → coreB c ≡ true
 unfolding coreB storesB
 sound-core c p =
-    rw (p .in-time, p .fit, p .ordered, p .counted, p .latched, p .in-month, p .archive-held, p .log-held, p .audit-held)
+    rw (p .measured, p .fit, p .ordered, p .latched, p .archive-held, p .log-held, p .audit-held)
 
 -- ---- the state
 
@@ -94,14 +102,12 @@ unfolding sessionB noSession cellsB cellB allBelow
 no-session = refl
 
 fresh-core : (time : ℕ) (locks : Locks) → time < endOfTime → SoundCore (freshCore time locks)
-unfolding freshCore countersB nothingCounted latchedB noAlarm
+unfolding freshCore measuredB countersB nothingCounted latchedB noAlarm
 fresh-core time locks h = record {
-  in-time = lt-ltb time endOfTime h;
+  measured = rw (lt-ltb time endOfTime h, eq-eqb (monthOf time) (monthOf time) refl);
   fit = factory-fits;
   ordered = factory-ordered;
-  counted = refl;
   latched = refl;
-  in-month = eq-eqb (monthOf time) (monthOf time) refl;
   archive-held = ring-passes archiveLines (ringAfter archiveLines 0) (omega arith) (record { lines = 0; gives = refl });
   log-held = book-passes log-common (bookAfter logLines 0) (record { lines = 0; gives = refl });
   audit-held = book-passes audit-common (bookAfter auditLines 0) (record { lines = 0; gives = refl });

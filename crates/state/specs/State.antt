@@ -19,6 +19,7 @@ use Rattle.state.specs.declared.Alarms.{Alarms}
 use Rattle.state.specs.declared.Locks.{Locks}
 use Rattle.state.specs.declared.Cell.{Cell}
 use Rattle.state.specs.declared.Session.{Session}
+use Rattle.state.specs.declared.Measured.{Measured}
 use Rattle.state.specs.declared.Core.{Core}
 use Rattle.state.specs.declared.State.{State}
 
@@ -43,10 +44,7 @@ shutLocks supcode custcode = record { cal = false; sup = false; cust = false; su
 -- counters 0, settings factory, no alarm or latch, no line held; the start time is the last accepted time until a cycle is accepted
 unfoldable pub freshCore : ℕ → Locks → Core
 freshCore time locks = record {
-  time = time;
-  month = monthOf time;
-  counters = nothingCounted;
-  alarms = noAlarm;
+  measured = record { time = time; month = monthOf time; counters = nothingCounted; alarms = noAlarm };
   latches = noAlarm;
   locks = locks;
   settings = factorySettings;
@@ -85,11 +83,15 @@ cellsB live cells k = cellB live k (getD cells k blankCell)
 unfoldable pub sessionB : Session → Bool
 sessionB x = allBelow (cellsB (x .live) (x .cells)) settingCount
 
--- time, settings and counters are in range, the pairs are in order, each present alarm is latched, the month fits the time, the stores
+-- time and counters are in range, and the month fits the time
+unfoldable pub measuredB : Measured → Bool
+measuredB m = ltb (m .time) endOfTime && countersB (m .counters) && eqb (m .month) (monthOf (m .time))
+
+-- so are the settings, the pairs are in order, each present alarm is latched, and the stores
 unfoldable pub coreB : Core → Bool
 coreB c =
-    ltb (c .time) endOfTime && settingsFitB (c .settings) && orderedB (c .settings) && countersB (c .counters)
-    && latchedB (c .alarms) (c .latches) && eqb (c .month) (monthOf (c .time)) && storesB (c .archive) (c .log) (c .audit)
+    measuredB (c .measured) && settingsFitB (c .settings) && orderedB (c .settings) && latchedB (c .measured .alarms) (c .latches)
+    && storesB (c .archive) (c .log) (c .audit)
 
 unfoldable pub wholeB : State → Bool
 wholeB s = coreB (s .core) && sessionB (s .keypad) && sessionB (s .port)

@@ -4,7 +4,7 @@ pub mod faults;
 ghost use mathlib.Core.Path.{_≡_};
 ghost use mathlib.Core.Bool.{not, _||_};
 ghost use lib.ListN.{getD, set};
-ghost use Rattle.state.specs.State.{blankCell, noSession, nothingCounted, noAlarm, shutLocks, freshCore, fresh, cellB, cellsB, sessionB, countersB, latchedB, storesB, coreB, wholeB, withCore};
+ghost use Rattle.state.specs.State.{blankCell, noSession, nothingCounted, noAlarm, shutLocks, freshCore, fresh, cellB, cellsB, sessionB, countersB, latchedB, storesB, measuredB, coreB, wholeB, withCore};
 ghost use Rattle.ground.specs.Below.{allBelow};
 ghost use Rattle.settings.specs.Settings.{settingCount, fitsB};
 
@@ -47,12 +47,17 @@ pub struct Session {
     pub cells: [Cell; settings::COUNT],
 }
 
-// All that is no session.
-pub struct Core {
+// What a cycle measures, and nothing else changes.
+pub struct Measured {
     pub time: u64,
     pub month: u64,
     pub counters: Counters,
     pub alarms: Alarms,
+}
+
+// All that is no session.
+pub struct Core {
+    pub measured: Measured,
     pub latches: Alarms,
     pub locks: Locks,
     pub settings: [settings::Setting; settings::COUNT],
@@ -66,12 +71,6 @@ pub struct State {
     pub core: Core,
     pub keypad: Session,
     pub port: Session,
-}
-
-// A command's answer where it has no value: the number on the fault card, 0 where done, and the state after it.
-pub struct Answer {
-    pub number: u64,
-    pub state: State,
 }
 
 // What one moment shows: time, counters, totals, alarms, latches and locks.
@@ -176,11 +175,14 @@ fn fresh_core(time: u64, locks: Locks) -> Core
         ring: empty,
         number: 0,
     };
-    Core {
+    let measured = Measured {
         time: time,
         month: month,
         counters: counters,
         alarms: none,
+    };
+    Core {
+        measured: measured,
         latches: none,
         locks: locks,
         settings: factory,
@@ -298,23 +300,29 @@ fn session_ok(x: Session) -> bool
     cells_ok(x.live, cells)
 }
 
+fn measured_ok(m: Measured) -> bool
+    ensures { λ r. ⌜ r ≡ measuredB m ⌝ }
+{
+    let time = m.time < calendar::END_OF_TIME;
+    let counters = counters_ok(m.counters);
+    let month = calendar::month_holds(m.month, m.time);
+    let a = ground::both(time, counters);
+    ground::both(a, month)
+}
+
 fn core_ok(c: Core) -> bool
     ensures { λ r. ⌜ r ≡ coreB c ⌝ }
 {
     let a = c.settings;
-    let time = c.time < calendar::END_OF_TIME;
+    let measured = measured_ok(c.measured);
     let fit = settings::settings_fit(a);
     let ordered = settings::pairs_ordered(a);
-    let counters = counters_ok(c.counters);
-    let latched = latched_ok(c.alarms, c.latches);
-    let month = calendar::month_holds(c.month, c.time);
+    let latched = latched_ok(c.measured.alarms, c.latches);
     let stores = stores_ok(c.archive, c.log, c.audit);
-    let d = ground::both(time, fit);
+    let d = ground::both(measured, fit);
     let e = ground::both(d, ordered);
-    let f = ground::both(e, counters);
-    let g = ground::both(f, latched);
-    let h = ground::both(g, month);
-    ground::both(h, stores)
+    let f = ground::both(e, latched);
+    ground::both(f, stores)
 }
 
 pub fn whole(s: State) -> bool

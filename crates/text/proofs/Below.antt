@@ -1,7 +1,7 @@
 -- A number below zero by way of the number before it: -1 less n - 1.
 -- Assumes nothing.
 use mathlib.Core.Path.{_≡_, refl, sym, ap, _∙_, subst⁻¹}
-use Prim.Native.Nat.{ℕ, zero, suc, _-_, _+_, _≤_, _<_, _^_}
+use Prim.Native.Nat.{ℕ, zero, suc, _-_, _+_, _≤_, _<_}
 use native.Mathlib.Omega.{arith}
 use mathlib.Core.Bool.{Bool, true, false, cond, true≢false}
 use lib.Dec.{T}

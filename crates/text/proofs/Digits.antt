@@ -1,12 +1,12 @@
 -- What the digits of a word come to: it grows with each digit, and the test before the product is the test on the sum.
 -- Assumes nothing.
-use mathlib.Core.Path.{_≡_, refl, sym, ap, _∙_, subst}
+use mathlib.Core.Path.{_≡_, refl, sym, _∙_, subst}
 use mathlib.Core.Bool.{Bool, true, false, cond, _&&_, true≢false}
 use mathlib.Core.List.{List, [], _∷_}
 use Prim.Native.Nat.{ℕ, zero, suc, _+_, _-_, _*_, _/_, _≤_, _<_}
 use native.Mathlib.Nat.{div-lt-iff-lt-mul, add-zero, add-suc, add-sub-of-le, le-div-iff-mul-le, mul-comm, le-refl, le-trans, lt-of-lt-of-le, mul-le-mul-right, one-mul}
 use native.Mathlib.Omega.{arith}
-use lib.Dec.{leb, ltb}
+use lib.Dec.{ltb}
 use lib.ListN.{length, getD}
 use borrow.Author.Tests.{lt-leb, le-leb, lt-ltb, le-ltb}
 use Rattle.ground.specs.Below.{allBelow}
@@ -14,7 +14,7 @@ use Rattle.ground.proofs.Every.{all-each}
 use Rattle.ground.proofs.Flags.{Either, is-true, is-false, either-of}
 use Rattle.text.specs.declared.numbers.Number.{Number}
 use Rattle.text.specs.declared.numbers.Number.the-variants as number
-use Rattle.text.specs.declared.numbers.Given.the-variants as given
+use Rattle.text.specs.declared.numbers.Wanted.the-variants as wanted
 use Rattle.text.specs.Numbers.{wholeOf, digitOf, digitAt, spelled, largest, isNumber, numberIn}
 
 pub fits : (base d v : ℕ) → 0 < base → d ≤ largest → v ≤ (largest - d) / base → base * v + d ≤ largest
@@ -82,7 +82,7 @@ pub is-number : (base : ℕ) (w : List ℕ) → 0 < length w → allBelow (digit
 unfolding numberIn isNumber
 is-number base w p a h = rw (lt-ltb 0 (length w) p, a, le-leb (spelled base w (length w)) largest h)
 
-pub no-bytes : (w : List ℕ) → length w ≡ 0 → given.NotOne ≡ wholeOf w
+pub no-bytes : (w : List ℕ) → length w ≡ 0 → wanted.NotOne ≡ wholeOf w
 unfolding wholeOf numberIn isNumber
 no-bytes [] e = refl
 no-bytes (b ∷ w) e = let f : 0 ≡ suc (length w) = sym e in absurd (omega arith)

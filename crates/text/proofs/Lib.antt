@@ -1,6 +1,7 @@
 -- Laws that the proofs of this crate cite.
 pub mod Below
 pub mod Bytes
+pub mod Cut
 pub mod Digits
 pub mod Floats
 pub mod Puts

@@ -3,18 +3,19 @@
 use mathlib.Core.Path.{_≡_, refl, sym, ap, _∙_, subst}
 use mathlib.Core.Bool.{Bool, true, false, cond}
 use mathlib.Core.List.{List, [], _∷_, _++_, append-assoc, append-nil}
-use Prim.Native.Nat.{ℕ, zero, suc, _+_, _-_, _/_, _%_, _≤_, _<_, zero-le, suc-le-suc}
+use Prim.Native.Nat.{ℕ, zero, suc, _+_, _-_, _/_, _%_, _≤_, _<_, suc-le-suc}
 use native.Mathlib.Nat.{add-zero, add-suc, le-refl}
 use native.Mathlib.Numerals.{add-one}
 use native.Mathlib.Omega.{arith}
 use borrow.Author.Tests.{lt-ltb, le-ltb}
 use lib.Dec.{ltb}
-use lib.ListN.{length, getD, take, drop, set, length-set}
-use lib.Seq.{take-suc-set, take-set-le, drop-cons, drop-set-lt, drop-drop, getD-set-same, take-add}
+use lib.ListN.{length, take, drop, set, length-set}
+use lib.Seq.{take-suc-set, drop-cons, drop-set-lt, drop-drop, getD-set-same, take-add}
 use lib.IntN.{ℤ, pos, natAbs}
 use lib.Signed.{ltZ}
-use Rattle.text.specs.Replies.{Put, glyph, digits, placesUpTo, places, decimal, spaced, signed, bitsOf, joined, valueWords, replyText, enough, textFor}
-use Rattle.text.specs.declared.replies.Reply.{Reply}
+use Rattle.text.specs.Echoes.{Put, glyph, digits, placesUpTo, places, decimal, spaced, signed, bitsOf, joined, valueWords, givenWords, echoText, enough, textFor}
+use Rattle.commands.specs.declared.Given.{Given}
+use Rattle.commands.specs.declared.Echo.{Echo}
 use lib.Ieee.{Float}
 use Rattle.settings.specs.declared.Value.{Value}
 use Rattle.settings.specs.declared.Value.the-variants.{Whole, Coefficient}
@@ -150,13 +151,16 @@ coefficient-text f v e = rw (e, append-nil)
 
 -- ---- lines
 
-pub nothing-put : (old : List ℕ) (at : ℕ) → Put 256 old old at at []
-nothing-put old at = record { holds = sym (append-nil (take at old)); least = le-refl at; most = omega arith; past = refl; room = refl }
+pub nothing-put : (n : ℕ) (old : List ℕ) (at : ℕ) → Put n old old at at []
+nothing-put n old at = record { holds = sym (append-nil (take at old)); least = le-refl at; most = omega arith; past = refl; room = refl }
 
-pub little-room : (old : List ℕ) (at : ℕ) (r : Reply) → length old < at + enough → [] ≡ textFor old at r
-unfolding textFor
-little-room old at r h = rw (lt-ltb (length old) (at + enough) h)
+pub given-text : (g x : Given) → g ≡ x → joined (givenWords x) ≡ joined (givenWords g)
+given-text g x e = rw e
 
-pub room-for : (old : List ℕ) (at : ℕ) (r x : Reply) → at + enough ≤ length old → r ≡ x → replyText x ≡ textFor old at r
+pub little-room : (old : List ℕ) (at : ℕ) (e : Echo) → length old < at + enough → [] ≡ textFor old at e
 unfolding textFor
-room-for old at r x h e = rw (le-ltb (length old) (at + enough) h, e)
+little-room old at e h = rw (lt-ltb (length old) (at + enough) h)
+
+pub room-for : (old : List ℕ) (at : ℕ) (e x : Echo) → at + enough ≤ length old → e ≡ x → echoText x ≡ textFor old at e
+unfolding textFor
+room-for old at e x h q = rw (le-ltb (length old) (at + enough) h, q)

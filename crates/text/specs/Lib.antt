@@ -1,5 +1,5 @@
 -- What the lines of the bench mean.
-pub mod Commands
+pub mod Echoes
+pub mod Entries
 pub mod Numbers
-pub mod Replies
 pub mod Words

@@ -24,8 +24,8 @@ use Rattle.text.specs.declared.numbers.PressureReading.{PressureReading}
 use Rattle.text.specs.declared.numbers.PressureReading.the-variants as pressureReading
 use Rattle.text.specs.declared.numbers.ComputedReading.{ComputedReading}
 use Rattle.text.specs.declared.numbers.ComputedReading.the-variants as computedReading
-use Rattle.text.specs.declared.numbers.Given.{Given}
-use Rattle.text.specs.declared.numbers.Given.the-variants as given
+use Rattle.text.specs.declared.numbers.Wanted.{Wanted}
+use Rattle.text.specs.declared.numbers.Wanted.the-variants as wanted
 use Rattle.text.specs.Words.{sameB}
 
 -- ---- numbers
@@ -59,9 +59,8 @@ unfoldable pub hexOf : List ℕ → Number
 hexOf w = cond (eqb (length w) 16) (numberIn 16 w) number.NotOne
 
 -- a code has 32 bits
-abbrev pub codeBy : Number → Code
-codeBy number.NotOne = code.NotOne
-codeBy (number.Is n) = cond (ltb n 4294967296) (code.Is n) code.NotOne
+unfoldable pub codeOf : ℕ → Code
+codeOf n = cond (ltb n 4294967296) (code.Is n) code.NotOne
 
 -- ---- readings: `-` stands for a failed sensor or a K that was not computed
 
@@ -93,20 +92,20 @@ abbrev pub belowZero : ℕ → ℤ
 belowZero n = negℤ (pos n)
 
 -- a signed number of 64 bits: -2^63 is the lowest, 2^63 - 1 the highest
-abbrev pub wholeBy : Bool → Number → Given
-wholeBy negative number.NotOne = given.NotOne
-wholeBy true (number.Is n) = cond (leb n 9223372036854775808) (given.Is (Whole (belowZero n))) given.NotOne
-wholeBy false (number.Is n) = cond (ltb n 9223372036854775808) (given.Is (Whole (pos n))) given.NotOne
+abbrev pub wholeBy : Bool → Number → Wanted
+wholeBy negative number.NotOne = wanted.NotOne
+wholeBy true (number.Is n) = cond (leb n 9223372036854775808) (wanted.Is (Whole (belowZero n))) wanted.NotOne
+wholeBy false (number.Is n) = cond (ltb n 9223372036854775808) (wanted.Is (Whole (pos n))) wanted.NotOne
 
 -- with `-` before its digits where it is below zero
-unfoldable pub wholeOf : List ℕ → Given
+unfoldable pub wholeOf : List ℕ → Wanted
 wholeOf w = cond (eqb (getD w 0 0) 45) (wholeBy true (numberIn 10 (drop 1 w))) (wholeBy false (numberIn 10 w))
 
 -- the float of these bits, a NaN's and an infinity's too
-abbrev pub coefficientBy : Number → Given
-coefficientBy number.NotOne = given.NotOne
-coefficientBy (number.Is n) = given.Is (Coefficient (ofBits binary64 n))
+abbrev pub coefficientBy : Number → Wanted
+coefficientBy number.NotOne = wanted.NotOne
+coefficientBy (number.Is n) = wanted.Is (Coefficient (ofBits binary64 n))
 
 -- `w` and a whole number, or `c` and the bits of a coefficient
-unfoldable pub valueIn : List ℕ → List ℕ → Given
-valueIn kind w = cond (sameB kind (119 ∷ [])) (wholeOf w) (cond (sameB kind (99 ∷ [])) (coefficientBy (hexOf w)) given.NotOne)
+unfoldable pub valueIn : List ℕ → List ℕ → Wanted
+valueIn kind w = cond (sameB kind (119 ∷ [])) (wholeOf w) (cond (sameB kind (99 ∷ [])) (coefficientBy (hexOf w)) wanted.NotOne)

@@ -46,7 +46,7 @@ sameB (a ∷ as₁) (b ∷ bs) = eqb a b && sameB as₁ bs
 
 -- ---- an unfinished line, kept until more of it is read
 
--- how much of it decides its answer: one byte more than a command may have
+-- how much of it decides its answer: one byte more than a command may have (proofs/Cut.antt says that it does)
 abbrev pub deciding : ℕ
 deciding = 201
 

@@ -2,7 +2,7 @@
 ghost use mathlib.Core.Path.{_≡_};
 ghost use Prim.Native.Nat.{_<_, _≤_};
 ghost use lib.Ieee.{ofBits, binary64};
-ghost use Rattle.text.specs.Numbers.{digitOf, numberIn, hexOf, codeBy, readingOf, rawBy, pressureBy, computedBy, wholeOf, wholeBy, belowZero, coefficientBy, valueIn};
+ghost use Rattle.text.specs.Numbers.{digitOf, numberIn, hexOf, codeOf, readingOf, rawBy, pressureBy, computedBy, wholeOf, wholeBy, belowZero, coefficientBy, valueIn};
 
 pub enum Number {
     NotOne,
@@ -36,7 +36,8 @@ pub enum ComputedReading {
     Is(readings::Compressibility),
 }
 
-pub enum Given {
+// The value that a setting is wanted to have.
+pub enum Wanted {
     NotOne,
     Is(settings::Value),
 }
@@ -105,19 +106,13 @@ fn hex_of(w: &[u8]) -> Number
     Number::NotOne
 }
 
-pub fn code_of(n: Number) -> Code
-    ensures { λ r. ⌜ r ≡ codeBy n ⌝ }
+pub fn code_of(n: u64) -> Code
+    ensures { λ r. ⌜ r ≡ codeOf n ⌝ }
 {
-    match n {
-        Number::NotOne => Code::NotOne,
-        Number::Is(x) => {
-            if x < 0x1_0000_0000 {
-                Code::Is(x as u32)
-            } else {
-                Code::NotOne
-            }
-        }
+    if n < 0x1_0000_0000 {
+        return Code::Is(n as u32);
     }
+    Code::NotOne
 }
 
 pub fn reading_of(w: &[u8]) -> Reading
@@ -181,32 +176,32 @@ fn below_zero(n: u64) -> i64
     -1 - (n - 1) as i64
 }
 
-fn whole_by(negative: bool, n: Number) -> Given
+fn whole_by(negative: bool, n: Number) -> Wanted
     ensures { λ r. ⌜ r ≡ wholeBy negative n ⌝ }
 {
     match n {
-        Number::NotOne => Given::NotOne,
+        Number::NotOne => Wanted::NotOne,
         Number::Is(x) => {
             if negative {
                 if x <= 0x8000_0000_0000_0000 {
-                    return Given::Is(settings::Value::Whole(below_zero(x)));
+                    return Wanted::Is(settings::Value::Whole(below_zero(x)));
                 }
-                return Given::NotOne;
+                return Wanted::NotOne;
             }
             if x < 0x8000_0000_0000_0000 {
-                return Given::Is(settings::Value::Whole(x as i64));
+                return Wanted::Is(settings::Value::Whole(x as i64));
             }
-            Given::NotOne
+            Wanted::NotOne
         }
     }
 }
 
 // A whole number, with `-` before its digits where it is below zero.
-fn whole_of(w: &[u8]) -> Given
+fn whole_of(w: &[u8]) -> Wanted
     ensures { λ r. ⌜ r ≡ wholeOf (now (w .entry)) ⌝ }
 {
     if w.len() == 0 {
-        return Given::NotOne;
+        return Wanted::NotOne;
     }
     if w[0] == 45 {
         return whole_by(true, number_of(&w[1..]));
@@ -224,17 +219,17 @@ fn float_of(bits: u64) -> f64
     f64::from_bits(bits)
 }
 
-fn coefficient_by(n: Number) -> Given
+fn coefficient_by(n: Number) -> Wanted
     ensures { λ r. ⌜ r ≡ coefficientBy n ⌝ }
 {
     match n {
-        Number::NotOne => Given::NotOne,
-        Number::Is(bits) => Given::Is(settings::Value::Coefficient(float_of(bits))),
+        Number::NotOne => Wanted::NotOne,
+        Number::Is(bits) => Wanted::Is(settings::Value::Coefficient(float_of(bits))),
     }
 }
 
 // The words `w VALUE` or `c HEX`.
-pub fn value_in(kind: &[u8], w: &[u8]) -> Given
+pub fn value_in(kind: &[u8], w: &[u8]) -> Wanted
     ensures { λ r. ⌜ r ≡ valueIn (now (kind .entry)) (now (w .entry)) ⌝ }
 {
     let whole = crate::words::same(kind, b"w");
@@ -245,5 +240,5 @@ pub fn value_in(kind: &[u8], w: &[u8]) -> Given
     if coefficient {
         return coefficient_by(hex_of(w));
     }
-    Given::NotOne
+    Wanted::NotOne
 }

@@ -8,23 +8,32 @@ use Rattle.books.specs.declared.ArchiveLine.{ArchiveLine}
 use Rattle.books.specs.declared.LogLine.{LogLine}
 use Rattle.books.specs.declared.AuditLine.{AuditLine}
 use Rattle.state.specs.declared.State.{State}
-use Rattle.text.specs.declared.commands.Command.{Command}
-use Rattle.turns.specs.declared.Turn.{Turn}
-use Rattle.turns.specs.Turns.{Turned, shownOf, turnOf}
+use Rattle.state.specs.State.{wholeB}
+use Rattle.commands.specs.declared.Command.{Command}
+use Rattle.commands.specs.declared.Reply.{Reply}
+use Rattle.commands.specs.declared.Answer.{Answer}
+use Rattle.commands.specs.Answers.{World}
+use Rattle.steps.specs.Step.{step}
+use Rattle.device.specs.Plan.{worldOf, seenOf, turnOf, answerIn}
 use Rattle.trials.specs.declared.lend.Lent.{Lent}
 
-unfoldable pub theLent : Turn → List ArchiveLine → List LogLine → List AuditLine → Lent
-theLent turn archive log audit = record { turn = turn; archive = archive; log = log; audit = audit }
-
--- the command over these stores
-abbrev pub turned : State → Command → List ArchiveLine → List LogLine → List AuditLine → Turned
-turned s c archive log audit = turnOf s c (shownOf s c archive log audit) archive log audit
+unfoldable pub theLent : Answer → List ArchiveLine → List LogLine → List AuditLine → Lent
+theLent answer archive log audit = record { answer = answer; archive = archive; log = log; audit = audit }
 
 -- each store, with what was not lent of it
-abbrev pub withRest : Turned → List ArchiveLine → List LogLine → List AuditLine → Lent
-withRest t archive log audit = theLent (t .turn) (t .archive ++ archive) (t .log ++ log) (t .audit ++ audit)
+abbrev pub withRest : World × Reply → List ArchiveLine → List LogLine → List AuditLine → Lent
+withRest t archive log audit = theLent (answerIn t) (t .0 .archive ++ archive) (t .0 .log ++ log) (t .0 .audit ++ audit)
 
--- `take` of more lines than there are is all of them
+-- the step over these stores; `take` of more lines than there are is all of them
 unfoldable pub lentOf : State → Command → List ArchiveLine → List LogLine → List AuditLine → ℕ → ℕ → ℕ → Lent
 lentOf s c archive log audit months events changes =
+    withRest (step c (worldOf s (take months archive) (take events log) (take changes audit))) (drop months archive) (drop events log) (drop changes audit)
+
+-- ---- how the code goes
+
+abbrev pub turned : State → Command → List ArchiveLine → List LogLine → List AuditLine → World × Reply
+turned s c archive log audit = turnOf (wholeB s) s c (seenOf (wholeB s) s c archive log audit) archive log audit
+
+unfoldable pub lentBy : State → Command → List ArchiveLine → List LogLine → List AuditLine → ℕ → ℕ → ℕ → Lent
+lentBy s c archive log audit months events changes =
     withRest (turned s c (take months archive) (take events log) (take changes audit)) (drop months archive) (drop events log) (drop changes audit)

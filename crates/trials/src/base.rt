@@ -54,11 +54,14 @@ pub fn book(held: u64, next: u64, number: u16) -> Book {
 // The pressure alarm is present, that of the temperature is over and still latched. The archive and the logbook are full.
 fn core() -> Core {
     let factory = settings::factory_settings();
+    let blank = state::fresh_state(TIME, SUPPLIERS_CODE, CUSTOMERS_CODE);
+    let fresh = blank.core;
+    let mut measured = fresh.measured;
+    measured.month = MONTH;
+    measured.counters = counters(999_999_999_999, 5_000, 99_999_999_999_999_999, 700);
+    measured.alarms = alarms(true, false, false);
     Core {
-        time: TIME,
-        month: MONTH,
-        counters: counters(999_999_999_999, 5_000, 99_999_999_999_999_999, 700),
-        alarms: alarms(true, false, false),
+        measured: measured,
         latches: alarms(true, true, false),
         locks: locks(true, false, false),
         settings: factory,

@@ -8,25 +8,36 @@ use state::Alarms;
 use state::Cell;
 use state::Counters;
 use state::Locks;
+use state::Measured;
 use state::Session;
 use state::State;
 
-pub fn time(s: State, time: u64, month: u64) -> State {
+fn with_measured(s: State, measured: Measured) -> State {
     let mut core = s.core;
-    core.time = time;
-    core.month = month;
+    core.measured = measured;
     state::with_core(s, core)
 }
 
+pub fn time(s: State, time: u64, month: u64) -> State {
+    let core = s.core;
+    let mut measured = core.measured;
+    measured.time = time;
+    measured.month = month;
+    with_measured(s, measured)
+}
+
 pub fn counters(s: State, c: Counters) -> State {
-    let mut core = s.core;
-    core.counters = c;
-    state::with_core(s, core)
+    let core = s.core;
+    let mut measured = core.measured;
+    measured.counters = c;
+    with_measured(s, measured)
 }
 
 pub fn alarms(s: State, present: Alarms, latched: Alarms) -> State {
     let mut core = s.core;
-    core.alarms = present;
+    let mut measured = core.measured;
+    measured.alarms = present;
+    core.measured = measured;
     core.latches = latched;
     state::with_core(s, core)
 }

@@ -3,9 +3,9 @@
 use books::ArchiveLine;
 use books::AuditLine;
 use books::LogLine;
+use commands::Answer;
+use commands::Command;
 use state::State;
-use text::commands::Command;
-use turns::Turn;
 ghost use mathlib.Core.Path.{_≡_};
 ghost use Prim.Native.Nat.{min};
 ghost use Rattle.trials.specs.Lend.{theLent, lentOf};
@@ -17,22 +17,22 @@ pub const LOG: usize = ring::LOG_LINES as usize + 1;
 pub const AUDIT: usize = ring::AUDIT_LINES as usize + 1;
 
 pub struct Lent {
-    pub turn: Turn,
+    pub answer: Answer,
     pub archive: [ArchiveLine; ARCHIVE],
     pub log: [LogLine; LOG],
     pub audit: [AuditLine; AUDIT],
 }
 
 fn the_lent(
-    turn: Turn,
+    answer: Answer,
     archive: [ArchiveLine; ARCHIVE],
     log: [LogLine; LOG],
     audit: [AuditLine; AUDIT],
 ) -> Lent
-    ensures { λ r. ⌜ r ≡ theLent turn archive log audit ⌝ }
+    ensures { λ r. ⌜ r ≡ theLent answer archive log audit ⌝ }
 {
     Lent {
-        turn: turn,
+        answer: answer,
         archive: archive,
         log: log,
         audit: audit,
@@ -61,14 +61,16 @@ pub fn put(
     let m = at_most(months, ARCHIVE);
     let e = at_most(events, LOG);
     let h = at_most(changes, AUDIT);
-    let seen = turns::shown(s, c, &archive[..m], &log[..e], &audit[..h]);
-    let turn = turns::answer(
+    let sound = state::whole(s);
+    let seen = device::seen(s, sound, c, &archive[..m], &log[..e], &audit[..h]);
+    let a = device::answer(
         s,
+        sound,
         c,
         seen,
         &mut archive[..m],
         &mut log[..e],
         &mut audit[..h],
     );
-    the_lent(turn, archive, log, audit)
+    the_lent(a, archive, log, audit)
 }

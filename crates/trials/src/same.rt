@@ -7,6 +7,7 @@ use state::Cell;
 use state::Core;
 use state::Counters;
 use state::Locks;
+use state::Measured;
 use state::Session;
 use state::State;
 
@@ -119,18 +120,22 @@ fn stores(a: Core, b: Core) -> bool {
     both(archive, both(log, audit))
 }
 
-fn cores(a: Core, b: Core) -> bool {
+fn measured(a: Measured, b: Measured) -> bool {
     let time = a.time == b.time;
     let month = a.month == b.month;
     let amounts = counters(a.counters, b.counters);
     let present = alarms(a.alarms, b.alarms);
+    both(both(time, month), both(amounts, present))
+}
+
+fn cores(a: Core, b: Core) -> bool {
+    let first = measured(a.measured, b.measured);
     let latched = alarms(a.latches, b.latches);
     let turned = locks(a.locks, b.locks);
     let x = a.settings;
     let y = b.settings;
     let set = settings_all(x, y);
     let kept = stores(a, b);
-    let first = both(both(time, month), both(amounts, present));
     let second = both(both(latched, turned), both(set, kept));
     both(first, second)
 }

@@ -5,13 +5,14 @@ use crate::lend;
 use crate::lend::Lent;
 use crate::same;
 use crate::stores;
+use commands::Command;
+use commands::Entry;
+use commands::Given;
 use ground::both;
 use print::end;
 use print::number;
 use print::text;
 use state::State;
-use text::commands::Command;
-use text::replies::Reply;
 use text::words::LINE_FEED;
 
 // How many lines of each store are lent.
@@ -29,17 +30,9 @@ pub fn exact() -> Lines {
     }
 }
 
-// What gives a value was accepted.
-fn number_in(r: Reply) -> u64 {
-    match r {
-        Reply::Number(n) => n,
-        _ => 0,
-    }
-}
-
-fn gives_value(r: Reply) -> bool {
-    match r {
-        Reply::Number(_) => false,
+fn gives_value(g: Given) -> bool {
+    match g {
+        Given::Nothing => false,
         _ => true,
     }
 }
@@ -82,23 +75,40 @@ fn outcome(s: State, c: Command, x: Lines) -> Lent {
 }
 
 fn told(s: State, t: Lent) {
-    let turn = t.turn;
-    let reply = turn.reply;
-    let after = turn.state;
-    number(number_in(reply));
+    let a = t.answer;
+    let reply = a.reply;
+    let after = a.state;
+    let given = reply.given;
+    number(reply.number);
     fate(s, after, stores_kept(t));
-    if gives_value(reply) {
+    if gives_value(given) {
         text(b" value");
     }
 }
 
+// A start is lent nothing, and takes the place of the state.
+fn started(s: State, time: u64, supcode: u32, custcode: u32) {
+    let a = panel::start(time, supcode, custcode);
+    let reply = a.reply;
+    let after = a.state;
+    number(reply.number);
+    fate(s, after, true);
+}
+
+fn answer(s: State, e: Entry, x: Lines) {
+    match e {
+        Entry::Nothing => text(b" nothing"),
+        Entry::Unknown => text(b" unknown"),
+        Entry::Start(time, supcode, custcode) => started(s, time, supcode, custcode),
+        Entry::Put(c) => told(s, outcome(s, c, x)),
+    }
+}
+
 fn trial(line: &[u8], s: State, x: Lines) {
-    let c = text::commands::command_of(line);
-    let t = outcome(s, c, x);
     text(b"  ");
     text(line);
     text(b":");
-    told(s, t);
+    answer(s, text::entries::entry_of(line), x);
     end();
 }
 

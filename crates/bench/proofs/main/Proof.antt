@@ -7,18 +7,13 @@ use native.Mathlib.Omega.{arith}
 use lib.ListN.{length}
 use Rattle.bench.proofs.main.Statement.{statement}
 use Rattle.bench.proofs.main.Tie as tie
-use Rattle.bench.proofs.main.Reads as reads
-use Rattle.bench.proofs.main.Lts as lts
-use Rattle.desk.proofs.fresh.Reads as fresh-reads
-use Rattle.bench.proofs.step.Reads as step-reads
-use Rattle.io.proofs.large_buffer.Reads as large-buffer-reads
 
 abbrev Inv-loop : tie.InvT-loop
-Inv-loop input₀ out₀ desk₀ from₀ have₀ on₀ turns₀ input out desk from have on turns =
+Inv-loop input₀ out₀ desk₀ from₀ have₀ more₀ on₀ turns₀ input out desk from have more on turns =
     (length input ≡ 65536) × (length out ≡ 65536) × (from ≤ have) × (have ≤ 65536)
 
 abbrev μ-loop : tie.MeasureT-loop
-μ-loop input₀ out₀ desk₀ from₀ have₀ on₀ turns₀ input out desk from have on turns = turns
+μ-loop input₀ out₀ desk₀ from₀ have₀ more₀ on₀ turns₀ input out desk from have more on turns = turns
 
 large-buffer-requires : tie.Need-large-buffer-requires Inv-loop μ-loop
 large-buffer-requires c κs = search needs
@@ -47,7 +42,7 @@ slice-aggregate-step-2 c = sym (c .before .before .before .before .loop .inv .1)
 step-requires : tie.Need-step-requires Inv-loop μ-loop
 step-requires c κs =
     let i = c .before .before .before .before .loop .inv in
-    (i .2, omega (arith, i .0, i .3))
+    (i .2, omega (arith, i .0, i .3), omega (arith, i .0))
 
 loop-less : tie.Need-loop-less Inv-loop μ-loop
 loop-less c = omega (arith, c .before .before .before .before .before .before .before .if1 .left)
@@ -57,7 +52,7 @@ loop-again c =
     let i = c .before .before .before .before .before .before .before .before .before .loop .inv in
     let s = c .before .before .before .before .step in
     let n = s .kept .1 .0 ∙ i .0 in
-    (n, s .kept .1 .1 .0 ∙ i .1, s .ensures .0, rw n at (s .ensures .1))
+    (n, s .kept .1 .1 .0 ∙ i .1, s .ensures .within .least, rw n at (s .ensures .within .most))
 
 returns-2 : tie.Need-returns-2 Inv-loop μ-loop
 returns-2 c = tt

@@ -19,9 +19,7 @@ no-audit-requires c κs = search needs
 
 returns : tie.Need-returns
 unfolding started
-returns c = simp (c .no-audit .ensures, c .before .no-log .ensures, c .before .before .no-archive .ensures, c .before .before .before .before .start .ensures)
+returns c = simp (c .before .no-audit .ensures, c .before .before .no-log .ensures, c .before .before .before .no-archive .ensures, c .before .before .before .before .before .start .ensures)
 
 pub fresh-spec : {M : Type 1} → statement M
-fresh-spec =
-    tie.close
-    (tie.spec start-requires no-archive-requires no-log-requires no-audit-requires returns)
+fresh-spec = tie.close (tie.spec start-requires no-archive-requires no-log-requires no-audit-requires returns)

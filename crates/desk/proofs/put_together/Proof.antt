@@ -1,6 +1,6 @@
 -- `desk::put_together` meets its contract. Its definition is unfolded at each return, and has there what the calls and the tests on the way say.
 -- Assumes nothing.
-use Rattle.desk.specs.Desk.{puttingTogether}
+use Rattle.desk.specs.Plan.{puttingTogether}
 use mathlib.Core.Path.{refl}
 use Rattle.desk.proofs.put_together.Statement.{statement}
 use Rattle.desk.proofs.put_together.Tie as tie

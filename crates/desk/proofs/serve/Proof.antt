@@ -6,6 +6,7 @@ use native.Mathlib.Omega.{arith}
 use native.Mathlib.Nat.{le-antisymm}
 use native.Mathlib.Numerals.{add-one, add-one-le}
 use mathlib.Core.WellFounded.{WellFounded, InvImage·wf}
+use mathlib.Core.Bool.{Bool}
 use mathlib.Core.List.{[], _∷_, List}
 use lib.ListN.{length, set, getD, replicate}
 use lib.WfN.{Nat·lt-wfRel}
@@ -25,7 +26,7 @@ use contract.Monad.{Fun}
 use contract.Running.{givenOf, tables, tablesOf}
 use types.Kit.{Given, Item, Sq, ‵, runs, anyQ, atRet, _⊛_, ⋆, given, some, later, learn, _$_, _∵_, !, qed, by, await, pick, move, keep, drop, use1, use2, use3, split, join, rewrite, fsplit, fjoin, feqL, suffices, frame, done}
 use types.Run.{look, init, store, forget, stop, from, load, lit, of-opd, bin, addr, and-then, no-more, assigns, assigns-last, land, first, skips, blocks, branches, jumps, loops, again, Below, exec, returns, enter, alloc1, alloc0, params1, pass1, pass0, free1, free0}
-use types.Part.{agg}
+use types.Part.{agg, whole}
 use types.Tokens.{lft-new, lft-end}
 use types.Share.{arr-parts}
 use sound.WpLaws.{FmC, fmOf, WpFn-mono}
@@ -49,24 +50,27 @@ use Rattle.books.proofs.Walk.{rest-of, vals, Fine, has, gives, answers, calls-w
 use Rattle.books.proofs.Local.{lends-array, array-comes-back, array-back, shares-array, shared-comes-back}
 use Rattle.books.proofs.Types.{a-u64, a-usize, a-bool, a-unit, a-ArchiveLine, a-LogLine, a-AuditLine}
 use Rattle.desk.specs.declared.Desk.{Desk}
-use Rattle.desk.proofs.Types.{a-Desk, a-Order, a-Said, a-Served}
-use Rattle.desk.specs.declared.Order.{Order}
-use Rattle.desk.specs.Desk.{block, nothingSaid, noOrder, saidOf, puttingTogether, after, saidUpTo, deskAfter, shownOn, replyOn}
+use Rattle.desk.proofs.Types.{a-Desk, a-Input, a-Output, a-Entry, a-Served}
+use Rattle.desk.specs.declared.Input.{Input}
+use Rattle.desk.specs.Desk.{block, noOutput, noInput}
 use Rattle.state.specs.declared.State.{State}
-use Rattle.cycle.proofs.Types.{a-State}
+use Rattle.cycle.proofs.Types.{a-State, a-Answer}
+use Rattle.state.specs.State.{wholeB}
 use Rattle.books.specs.declared.ArchiveLine.{ArchiveLine}
 use Rattle.books.specs.declared.LogLine.{LogLine}
 use Rattle.books.specs.declared.AuditLine.{AuditLine}
-use Rattle.desk.specs.declared.Said.{Said}
-use Rattle.text.specs.declared.commands.Command.{Command}
-use Rattle.turns.proofs.Types.{a-Command, a-Reply, a-Turn}
-use Rattle.text.specs.declared.replies.Reply.{Reply}
-use Rattle.turns.specs.Turns.{shownOf, turnOf}
-use Rattle.turns.specs.declared.Turn.{Turn}
+use Rattle.desk.specs.declared.Output.{Output}
+use Rattle.commands.specs.declared.Entry.{Entry}
+use Rattle.commands.specs.declared.Command.{Command}
+use Rattle.device.proofs.Types.{a-Command, a-Reply}
+use Rattle.desk.specs.Plan.{commandIn, answeredIn, outputBy, soundBy, puttingTogether, after, soundAfter, outputsUpTo, deskAfter, seenOn, turnOn, outputOn}
+use Rattle.commands.specs.declared.Reply.{Reply}
+use Rattle.device.specs.Plan.{seenOf, answerIn, turnOf}
+use Rattle.commands.specs.declared.Answer.{Answer}
 use Rattle.desk.specs.declared.Served.{Served}
 use Rattle.desk.proofs.Laws.{served-after}
 use Rattle.desk.proofs.Desk as Desk′
-use Rattle.desk.proofs.Order as Order′
+use Rattle.desk.proofs.Input as Input′
 use Rattle.desk.proofs.in_block as in-block
 use Rattle.desk.proofs.in_block.Symbol as in-block-def
 use Rattle.desk.proofs.in_block.Symbol.{name as #desk·in-block}
@@ -75,6 +79,10 @@ use Rattle.desk.proofs.state_of as state-of
 use Rattle.desk.proofs.state_of.Symbol as state-of-def
 use Rattle.desk.proofs.state_of.Symbol.{name as #desk·state-of}
 use Rattle.desk.proofs.state_of.Met as state-of-thm
+use Rattle.state.proofs.whole as whole
+use Rattle.state.proofs.whole.Symbol as whole-def
+use Rattle.state.proofs.whole.Symbol.{name as #state·whole}
+use Rattle.state.proofs.whole.Met as whole-thm
 use Rattle.desk.proofs.archive_of as archive-of
 use Rattle.desk.proofs.archive_of.Symbol as archive-of-def
 use Rattle.desk.proofs.archive_of.Symbol.{name as #desk·archive-of}
@@ -90,39 +98,51 @@ use Rattle.desk.proofs.audit_of.Symbol as audit-of-def
 use Rattle.desk.proofs.audit_of.Symbol.{name as #desk·audit-of}
 use Rattle.desk.proofs.audit_of.Met as audit-of-thm
 use Rattle.books.proofs.AuditLine as AuditLine′
-use Rattle.desk.proofs.nothing_said as nothing-said
-use Rattle.desk.proofs.nothing_said.Symbol as nothing-said-def
-use Rattle.desk.proofs.nothing_said.Symbol.{name as #desk·nothing-said}
-use Rattle.desk.proofs.nothing_said.Met as nothing-said-thm
-use Rattle.desk.proofs.Said as Said′
-use Rattle.desk.proofs.fetch_order as fetch-order
-use Rattle.desk.proofs.fetch_order.Symbol as fetch-order-def
-use Rattle.desk.proofs.fetch_order.Symbol.{name as #desk·fetch-order}
-use Rattle.desk.proofs.fetch_order.Met as fetch-order-thm
+use Rattle.desk.proofs.no_outputs as no-outputs
+use Rattle.desk.proofs.no_outputs.Symbol as no-outputs-def
+use Rattle.desk.proofs.no_outputs.Symbol.{name as #desk·no-outputs}
+use Rattle.desk.proofs.no_outputs.Met as no-outputs-thm
+use Rattle.desk.proofs.Output as Output′
+use Rattle.desk.proofs.fetch_input as fetch-input
+use Rattle.desk.proofs.fetch_input.Symbol as fetch-input-def
+use Rattle.desk.proofs.fetch_input.Symbol.{name as #desk·fetch-input}
+use Rattle.desk.proofs.fetch_input.Met as fetch-input-thm
+use Rattle.desk.proofs.entry_in as entry-in
+use Rattle.desk.proofs.entry_in.Symbol as entry-in-def
+use Rattle.desk.proofs.entry_in.Symbol.{name as #desk·entry-in}
+use Rattle.desk.proofs.entry_in.Met as entry-in-thm
 use Rattle.desk.proofs.command_in as command-in
 use Rattle.desk.proofs.command_in.Symbol as command-in-def
 use Rattle.desk.proofs.command_in.Symbol.{name as #desk·command-in}
 use Rattle.desk.proofs.command_in.Met as command-in-thm
-use Rattle.turns.proofs.shown as shown
-use Rattle.turns.proofs.shown.Symbol as shown-def
-use Rattle.turns.proofs.shown.Symbol.{name as #turns·shown}
-use Rattle.turns.proofs.shown.Met as shown-thm
-use Rattle.turns.proofs.answer as answer
-use Rattle.turns.proofs.answer.Symbol as answer-def
-use Rattle.turns.proofs.answer.Symbol.{name as #turns·answer}
-use Rattle.turns.proofs.answer.Met as answer-thm
-use Rattle.desk.proofs.said_in as said-in
-use Rattle.desk.proofs.said_in.Symbol as said-in-def
-use Rattle.desk.proofs.said_in.Symbol.{name as #desk·said-in}
-use Rattle.desk.proofs.said_in.Met as said-in-thm
-use Rattle.desk.proofs.put_said as put-said
-use Rattle.desk.proofs.put_said.Symbol as put-said-def
-use Rattle.desk.proofs.put_said.Symbol.{name as #desk·put-said}
-use Rattle.desk.proofs.put_said.Met as put-said-thm
+use Rattle.device.proofs.seen as seen
+use Rattle.device.proofs.seen.Symbol as seen-def
+use Rattle.device.proofs.seen.Symbol.{name as #device·seen}
+use Rattle.device.proofs.seen.Met as seen-thm
+use Rattle.device.proofs.answer as answer
+use Rattle.device.proofs.answer.Symbol as answer-def
+use Rattle.device.proofs.answer.Symbol.{name as #device·answer}
+use Rattle.device.proofs.answer.Met as answer-thm
+use Rattle.desk.proofs.answered_in as answered-in
+use Rattle.desk.proofs.answered_in.Symbol as answered-in-def
+use Rattle.desk.proofs.answered_in.Symbol.{name as #desk·answered-in}
+use Rattle.desk.proofs.answered_in.Met as answered-in-thm
+use Rattle.desk.proofs.output_by as output-by
+use Rattle.desk.proofs.output_by.Symbol as output-by-def
+use Rattle.desk.proofs.output_by.Symbol.{name as #desk·output-by}
+use Rattle.desk.proofs.output_by.Met as output-by-thm
+use Rattle.desk.proofs.put_output as put-output
+use Rattle.desk.proofs.put_output.Symbol as put-output-def
+use Rattle.desk.proofs.put_output.Symbol.{name as #desk·put-output}
+use Rattle.desk.proofs.put_output.Met as put-output-thm
 use Rattle.desk.proofs.state_in as state-in
 use Rattle.desk.proofs.state_in.Symbol as state-in-def
 use Rattle.desk.proofs.state_in.Symbol.{name as #desk·state-in}
 use Rattle.desk.proofs.state_in.Met as state-in-thm
+use Rattle.desk.proofs.sound_by as sound-by
+use Rattle.desk.proofs.sound_by.Symbol as sound-by-def
+use Rattle.desk.proofs.sound_by.Symbol.{name as #desk·sound-by}
+use Rattle.desk.proofs.sound_by.Met as sound-by-thm
 use Rattle.desk.proofs.put_together as put-together
 use Rattle.desk.proofs.put_together.Symbol as put-together-def
 use Rattle.desk.proofs.put_together.Symbol.{name as #desk·put-together}
@@ -134,7 +154,7 @@ use Rattle.desk.proofs.serve.Code as code
 use Rattle.desk.proofs.serve.Code.Mir as M
 
 abbrev stayed : Stays (fn.ended .signature .params) (fn.ended .kept)
-stayed = (stay-dropped (plain (λ _. Desk′.the-row)) yes, (stay-dropped (plain (λ _. (Array Order′.the-row 256))) yes, (stay-dropped (plain (λ _. usize)) yes, tt)))
+stayed = (stay-dropped (plain (λ _. Desk′.the-row)) yes, (stay-dropped (plain (λ _. (Array Input′.the-row 256))) yes, (stay-dropped (plain (λ _. usize)) yes, tt)))
 
 -- the contracts that the proof cites
 abbrev Says-in-block : {M′ : Type 1} (𝓤 : URA M′) (H : Heap 𝓤) (A : Atoms 𝓤) (at-mem : Memory → SProp 𝓤) (run : Routine → Fun 𝓤) → Contract 𝓤
@@ -142,6 +162,9 @@ Says-in-block 𝓤 H A at-mem run = tripleOf 𝓤 H A in-block.signature (in-blo
 
 abbrev Says-state-of : {M′ : Type 1} (𝓤 : URA M′) (H : Heap 𝓤) (A : Atoms 𝓤) (at-mem : Memory → SProp 𝓤) (run : Routine → Fun 𝓤) → Contract 𝓤
 Says-state-of 𝓤 H A at-mem run = tripleOf 𝓤 H A state-of.signature (state-of.spec 𝓤 H A at-mem run)
+
+abbrev Says-whole : {M′ : Type 1} (𝓤 : URA M′) (H : Heap 𝓤) (A : Atoms 𝓤) (at-mem : Memory → SProp 𝓤) (run : Routine → Fun 𝓤) → Contract 𝓤
+Says-whole 𝓤 H A at-mem run = tripleOf 𝓤 H A whole.signature (whole.spec 𝓤 H A at-mem run)
 
 abbrev Says-archive-of : {M′ : Type 1} (𝓤 : URA M′) (H : Heap 𝓤) (A : Atoms 𝓤) (at-mem : Memory → SProp 𝓤) (run : Routine → Fun 𝓤) → Contract 𝓤
 Says-archive-of 𝓤 H A at-mem run = tripleOf 𝓤 H A archive-of.signature (archive-of.spec 𝓤 H A at-mem run)
@@ -152,29 +175,38 @@ Says-log-of 𝓤 H A at-mem run = tripleOf 𝓤 H A log-of.signature (log-of.spe
 abbrev Says-audit-of : {M′ : Type 1} (𝓤 : URA M′) (H : Heap 𝓤) (A : Atoms 𝓤) (at-mem : Memory → SProp 𝓤) (run : Routine → Fun 𝓤) → Contract 𝓤
 Says-audit-of 𝓤 H A at-mem run = tripleOf 𝓤 H A audit-of.signature (audit-of.spec 𝓤 H A at-mem run)
 
-abbrev Says-nothing-said : {M′ : Type 1} (𝓤 : URA M′) (H : Heap 𝓤) (A : Atoms 𝓤) (at-mem : Memory → SProp 𝓤) (run : Routine → Fun 𝓤) → Contract 𝓤
-Says-nothing-said 𝓤 H A at-mem run = tripleOf 𝓤 H A nothing-said.signature (nothing-said.spec 𝓤 H A at-mem run)
+abbrev Says-no-outputs : {M′ : Type 1} (𝓤 : URA M′) (H : Heap 𝓤) (A : Atoms 𝓤) (at-mem : Memory → SProp 𝓤) (run : Routine → Fun 𝓤) → Contract 𝓤
+Says-no-outputs 𝓤 H A at-mem run = tripleOf 𝓤 H A no-outputs.signature (no-outputs.spec 𝓤 H A at-mem run)
 
-abbrev Says-fetch-order : {M′ : Type 1} (𝓤 : URA M′) (H : Heap 𝓤) (A : Atoms 𝓤) (at-mem : Memory → SProp 𝓤) (run : Routine → Fun 𝓤) → Contract 𝓤
-Says-fetch-order 𝓤 H A at-mem run = tripleOf 𝓤 H A fetch-order.signature (fetch-order.spec 𝓤 H A at-mem run)
+abbrev Says-fetch-input : {M′ : Type 1} (𝓤 : URA M′) (H : Heap 𝓤) (A : Atoms 𝓤) (at-mem : Memory → SProp 𝓤) (run : Routine → Fun 𝓤) → Contract 𝓤
+Says-fetch-input 𝓤 H A at-mem run = tripleOf 𝓤 H A fetch-input.signature (fetch-input.spec 𝓤 H A at-mem run)
+
+abbrev Says-entry-in : {M′ : Type 1} (𝓤 : URA M′) (H : Heap 𝓤) (A : Atoms 𝓤) (at-mem : Memory → SProp 𝓤) (run : Routine → Fun 𝓤) → Contract 𝓤
+Says-entry-in 𝓤 H A at-mem run = tripleOf 𝓤 H A entry-in.signature (entry-in.spec 𝓤 H A at-mem run)
 
 abbrev Says-command-in : {M′ : Type 1} (𝓤 : URA M′) (H : Heap 𝓤) (A : Atoms 𝓤) (at-mem : Memory → SProp 𝓤) (run : Routine → Fun 𝓤) → Contract 𝓤
 Says-command-in 𝓤 H A at-mem run = tripleOf 𝓤 H A command-in.signature (command-in.spec 𝓤 H A at-mem run)
 
-abbrev Says-shown : {M′ : Type 1} (𝓤 : URA M′) (H : Heap 𝓤) (A : Atoms 𝓤) (at-mem : Memory → SProp 𝓤) (run : Routine → Fun 𝓤) → Contract 𝓤
-Says-shown 𝓤 H A at-mem run = tripleOf 𝓤 H A shown.signature (shown.spec 𝓤 H A at-mem run)
+abbrev Says-seen : {M′ : Type 1} (𝓤 : URA M′) (H : Heap 𝓤) (A : Atoms 𝓤) (at-mem : Memory → SProp 𝓤) (run : Routine → Fun 𝓤) → Contract 𝓤
+Says-seen 𝓤 H A at-mem run = tripleOf 𝓤 H A seen.signature (seen.spec 𝓤 H A at-mem run)
 
 abbrev Says-answer : {M′ : Type 1} (𝓤 : URA M′) (H : Heap 𝓤) (A : Atoms 𝓤) (at-mem : Memory → SProp 𝓤) (run : Routine → Fun 𝓤) → Contract 𝓤
 Says-answer 𝓤 H A at-mem run = tripleOf 𝓤 H A answer.signature (answer.spec 𝓤 H A at-mem run)
 
-abbrev Says-said-in : {M′ : Type 1} (𝓤 : URA M′) (H : Heap 𝓤) (A : Atoms 𝓤) (at-mem : Memory → SProp 𝓤) (run : Routine → Fun 𝓤) → Contract 𝓤
-Says-said-in 𝓤 H A at-mem run = tripleOf 𝓤 H A said-in.signature (said-in.spec 𝓤 H A at-mem run)
+abbrev Says-answered-in : {M′ : Type 1} (𝓤 : URA M′) (H : Heap 𝓤) (A : Atoms 𝓤) (at-mem : Memory → SProp 𝓤) (run : Routine → Fun 𝓤) → Contract 𝓤
+Says-answered-in 𝓤 H A at-mem run = tripleOf 𝓤 H A answered-in.signature (answered-in.spec 𝓤 H A at-mem run)
 
-abbrev Says-put-said : {M′ : Type 1} (𝓤 : URA M′) (H : Heap 𝓤) (A : Atoms 𝓤) (at-mem : Memory → SProp 𝓤) (run : Routine → Fun 𝓤) → Contract 𝓤
-Says-put-said 𝓤 H A at-mem run = tripleOf 𝓤 H A put-said.signature (put-said.spec 𝓤 H A at-mem run)
+abbrev Says-output-by : {M′ : Type 1} (𝓤 : URA M′) (H : Heap 𝓤) (A : Atoms 𝓤) (at-mem : Memory → SProp 𝓤) (run : Routine → Fun 𝓤) → Contract 𝓤
+Says-output-by 𝓤 H A at-mem run = tripleOf 𝓤 H A output-by.signature (output-by.spec 𝓤 H A at-mem run)
+
+abbrev Says-put-output : {M′ : Type 1} (𝓤 : URA M′) (H : Heap 𝓤) (A : Atoms 𝓤) (at-mem : Memory → SProp 𝓤) (run : Routine → Fun 𝓤) → Contract 𝓤
+Says-put-output 𝓤 H A at-mem run = tripleOf 𝓤 H A put-output.signature (put-output.spec 𝓤 H A at-mem run)
 
 abbrev Says-state-in : {M′ : Type 1} (𝓤 : URA M′) (H : Heap 𝓤) (A : Atoms 𝓤) (at-mem : Memory → SProp 𝓤) (run : Routine → Fun 𝓤) → Contract 𝓤
 Says-state-in 𝓤 H A at-mem run = tripleOf 𝓤 H A state-in.signature (state-in.spec 𝓤 H A at-mem run)
+
+abbrev Says-sound-by : {M′ : Type 1} (𝓤 : URA M′) (H : Heap 𝓤) (A : Atoms 𝓤) (at-mem : Memory → SProp 𝓤) (run : Routine → Fun 𝓤) → Contract 𝓤
+Says-sound-by 𝓤 H A at-mem run = tripleOf 𝓤 H A sound-by.signature (sound-by.spec 𝓤 H A at-mem run)
 
 abbrev Says-put-together : {M′ : Type 1} (𝓤 : URA M′) (H : Heap 𝓤) (A : Atoms 𝓤) (at-mem : Memory → SProp 𝓤) (run : Routine → Fun 𝓤) → Contract 𝓤
 Says-put-together 𝓤 H A at-mem run = tripleOf 𝓤 H A put-together.signature (put-together.spec 𝓤 H A at-mem run)
@@ -185,12 +217,12 @@ below k m low fits = omega arith
 nearer : (k m : ℕ) → k < m → m - suc k < m - k
 nearer k m less = omega arith
 
-module _ {M′ : Type 1} (𝓤 : URA M′) (H : Heap 𝓤) (A : Atoms 𝓤) (W : Given 𝓤 H A) (at-mem : Memory → SProp 𝓤) (run : Routine → Fun 𝓤) (d : Desk) (d-fine : Fine a-Desk d) (orders : (List Order)) (orders-fine : Fine (known-array a-Order 256) orders) (count : ℕ) (count-fine : Fine a-usize count) where
-  abbrev args : Desk × ((List Order) × (ℕ × Unit {0}))
-  args = (d, (orders, (count, tt)))
+module _ {M′ : Type 1} (𝓤 : URA M′) (H : Heap 𝓤) (A : Atoms 𝓤) (W : Given 𝓤 H A) (at-mem : Memory → SProp 𝓤) (run : Routine → Fun 𝓤) (d : Desk) (d-fine : Fine a-Desk d) (inputs : (List Input)) (inputs-fine : Fine (known-array a-Input 256) inputs) (count : ℕ) (count-fine : Fine a-usize count) where
+  abbrev args : Desk × ((List Input) × (ℕ × Unit {0}))
+  args = (d, (inputs, (count, tt)))
 
   abbrev machine : List Val × (List Val × (List Val × Unit {0}))
-  machine = (a-Desk .val d ∷ [], ((known-array a-Order 256) .val orders ∷ [], (a-usize .val count ∷ [], tt)))
+  machine = (a-Desk .val d ∷ [], ((known-array a-Input 256) .val inputs ∷ [], (a-usize .val count ∷ [], tt)))
 
   abbrev Post : Val → SProp 𝓤
   Post = walkOf 𝓤 H A fn.ended stayed (fn.clauses 𝓤 H A at-mem run) .post ((tt, tt, tt, args, machine), tt)
@@ -200,19 +232,22 @@ module _ {M′ : Type 1} (𝓤 : URA M′) (H : Heap 𝓤) (A : Atoms 𝓤) (W :
   n = min count block
 
   abbrev s-at : ℕ → State
-  s-at k = after d orders k .state
+  s-at k = after d inputs k .state
+
+  abbrev sound-at : ℕ → Bool
+  sound-at k = soundAfter d inputs k
 
   abbrev archive-at : ℕ → (List ArchiveLine)
-  archive-at k = after d orders k .archive
+  archive-at k = after d inputs k .archive
 
   abbrev log-at : ℕ → (List LogLine)
-  log-at k = after d orders k .log
+  log-at k = after d inputs k .log
 
   abbrev audit-at : ℕ → (List AuditLine)
-  audit-at k = after d orders k .audit
+  audit-at k = after d inputs k .audit
 
-  abbrev said-at : ℕ → (List Said)
-  said-at k = saidUpTo d orders k
+  abbrev outputs-at : ℕ → (List Output)
+  outputs-at k = outputsUpTo d inputs k
 
   -- ---- the calls: what each is handed, that it is had, and what it gives
   abbrev to-in-block : Says-in-block 𝓤 H A at-mem run .Ghost
@@ -232,6 +267,15 @@ module _ {M′ : Type 1} (𝓤 : URA M′) (H : Heap 𝓤) (A : Atoms 𝓤) (W :
 
   gives-state-of : (w : Val) → ent 𝓤 (Says-state-of 𝓤 H A at-mem run .post to-state-of w) (H .⇛ (guard 𝓤 ((w ≡ a-State .val (d .state)) × Fine a-State (d .state)) (emp 𝓤)))
   gives-state-of = answers 𝓤 H A W a-State (Unit {0} × Unit {0}) (λ ws. lasts state-of.ended tt (d, tt) ws) (λ r. r ≡ d .state) (d .state) (λ r e. e) (emp 𝓤)
+
+  abbrev to-whole : Says-whole 𝓤 H A at-mem run .Ghost
+  to-whole = ((tt, tt, tt, ((d .state), tt), (a-State .val (d .state) ∷ [], tt)), tt)
+
+  asks-whole : Fine a-State (d .state) → ent 𝓤 (emp 𝓤) (Says-whole 𝓤 H A at-mem run .pre to-whole)
+  asks-whole f0 = qed W [] ∵ nothing ! $ nothing ! $ has ! a-State (d .state) f0 $ fjoin ! $ nothing ! $ join ! $ done !
+
+  gives-whole : (w : Val) → ent 𝓤 (Says-whole 𝓤 H A at-mem run .post to-whole w) (H .⇛ (guard 𝓤 ((w ≡ a-bool .val (wholeB (d .state))) × Fine a-bool (wholeB (d .state))) (emp 𝓤)))
+  gives-whole = answers 𝓤 H A W a-bool (Unit {0} × Unit {0}) (λ ws. lasts whole.ended tt ((d .state), tt) ws) (λ r. r ≡ wholeB (d .state)) (wholeB (d .state)) (λ r e. e) (emp 𝓤)
 
   abbrev to-archive-of : Says-archive-of 𝓤 H A at-mem run .Ghost
   to-archive-of = ((tt, tt, tt, (d, tt), (a-Desk .val d ∷ [], tt)), tt)
@@ -260,128 +304,164 @@ module _ {M′ : Type 1} (𝓤 : URA M′) (H : Heap 𝓤) (A : Atoms 𝓤) (W :
   gives-audit-of : (w : Val) → ent 𝓤 (Says-audit-of 𝓤 H A at-mem run .post to-audit-of w) (H .⇛ (guard 𝓤 ((w ≡ (known-array a-AuditLine 200) .val (d .audit)) × Fine (known-array a-AuditLine 200) (d .audit)) (emp 𝓤)))
   gives-audit-of = answers 𝓤 H A W (known-array a-AuditLine 200) (Unit {0} × Unit {0}) (λ ws. lasts audit-of.ended tt (d, tt) ws) (λ r. r ≡ d .audit) (d .audit) (λ r e. e) (emp 𝓤)
 
-  abbrev to-nothing-said : Says-nothing-said 𝓤 H A at-mem run .Ghost
-  to-nothing-said = ((tt, tt, tt, tt, tt), tt)
+  abbrev to-no-outputs : Says-no-outputs 𝓤 H A at-mem run .Ghost
+  to-no-outputs = ((tt, tt, tt, tt, tt), tt)
 
-  asks-nothing-said : ent 𝓤 (emp 𝓤) (Says-nothing-said 𝓤 H A at-mem run .pre to-nothing-said)
-  asks-nothing-said = qed W [] ∵ nothing ! $ nothing ! $ nothing ! $ join ! $ done !
+  asks-no-outputs : ent 𝓤 (emp 𝓤) (Says-no-outputs 𝓤 H A at-mem run .pre to-no-outputs)
+  asks-no-outputs = qed W [] ∵ nothing ! $ nothing ! $ nothing ! $ join ! $ done !
 
-  gives-nothing-said : (w : Val) → ent 𝓤 (Says-nothing-said 𝓤 H A at-mem run .post to-nothing-said w) (H .⇛ (guard 𝓤 ((w ≡ (known-array a-Said 256) .val (replicate block nothingSaid)) × Fine (known-array a-Said 256) (replicate block nothingSaid)) (emp 𝓤)))
-  gives-nothing-said = answers 𝓤 H A W (known-array a-Said 256) (Unit {0}) (λ ws. lasts nothing-said.ended tt tt ws) (λ r. r ≡ replicate block nothingSaid) (replicate block nothingSaid) (λ r e. e) (emp 𝓤)
+  gives-no-outputs : (w : Val) → ent 𝓤 (Says-no-outputs 𝓤 H A at-mem run .post to-no-outputs w) (H .⇛ (guard 𝓤 ((w ≡ (known-array a-Output 256) .val (replicate block noOutput)) × Fine (known-array a-Output 256) (replicate block noOutput)) (emp 𝓤)))
+  gives-no-outputs = answers 𝓤 H A W (known-array a-Output 256) (Unit {0}) (λ ws. lasts no-outputs.ended tt tt ws) (λ r. r ≡ replicate block noOutput) (replicate block noOutput) (λ r e. e) (emp 𝓤)
 
-  abbrev is-fetch-order : ℕ → Order
-  is-fetch-order k = (getD orders k noOrder)
+  abbrev is-fetch-input : ℕ → Input
+  is-fetch-input k = (getD inputs k noInput)
 
-  abbrev to-fetch-order : ℕ → ℕ → ℕ → GName → Says-fetch-order 𝓤 H A at-mem run .Ghost
-  to-fetch-order k b4 α4 γ4 = ((((α4 ∷ []), tt), (fullShare, tt), tt, ((record { ptr = (b4, 0); name = γ4; now = orders }), (k, tt)), ((sliceVal (b4, 0) (length orders)) ∷ [], (a-usize .val k ∷ [], tt))), tt)
+  abbrev to-fetch-input : ℕ → ℕ → ℕ → GName → Says-fetch-input 𝓤 H A at-mem run .Ghost
+  to-fetch-input k b4 α4 γ4 = ((((α4 ∷ []), tt), (fullShare, tt), tt, ((record { ptr = (b4, 0); name = γ4; now = inputs }), (k, tt)), ((sliceVal (b4, 0) (length inputs)) ∷ [], (a-usize .val k ∷ [], tt))), tt)
 
-  asks-fetch-order : (k : ℕ) (b4 α4 : ℕ) (γ4 : GName) → Fine a-usize k → ent 𝓤 (sep 𝓤 (sep 𝓤 (A .lft (α4 ∷ []) fullShare) (sem 𝓤 H A ftrue)) (sem 𝓤 H A (ShrSlice (named 0) (α4 ∷ []) Order′.the-row .own (record { ptr = (b4, 0); name = γ4; now = orders }) ((sliceVal (b4, 0) (length orders)) ∷ [])))) (Says-fetch-order 𝓤 H A at-mem run .pre (to-fetch-order k b4 α4 γ4))
-  asks-fetch-order k b4 α4 γ4 f1 = qed W ((‵ (flft (α4 ∷ []) fullShare) ⊛ ‵ ftrue) ∷ ‵ (ShrSlice (named 0) (α4 ∷ []) Order′.the-row .own (record { ptr = (b4, 0); name = γ4; now = orders }) ((sliceVal (b4, 0) (length orders)) ∷ [])) ∷ []) ∵ nothing ! $ nothing ! $ has ! a-usize k f1 $ fjoin ! $ move ! (3 ∷ 0 ∷ []) $ fjoin ! $ move ! (2 ∷ 0 ∷ []) $ join ! $ done !
+  asks-fetch-input : (k : ℕ) (b4 α4 : ℕ) (γ4 : GName) → Fine a-usize k → ent 𝓤 (sep 𝓤 (sep 𝓤 (A .lft (α4 ∷ []) fullShare) (sem 𝓤 H A ftrue)) (sem 𝓤 H A (ShrSlice (named 0) (α4 ∷ []) Input′.the-row .own (record { ptr = (b4, 0); name = γ4; now = inputs }) ((sliceVal (b4, 0) (length inputs)) ∷ [])))) (Says-fetch-input 𝓤 H A at-mem run .pre (to-fetch-input k b4 α4 γ4))
+  asks-fetch-input k b4 α4 γ4 f1 = qed W ((‵ (flft (α4 ∷ []) fullShare) ⊛ ‵ ftrue) ∷ ‵ (ShrSlice (named 0) (α4 ∷ []) Input′.the-row .own (record { ptr = (b4, 0); name = γ4; now = inputs }) ((sliceVal (b4, 0) (length inputs)) ∷ [])) ∷ []) ∵ nothing ! $ nothing ! $ has ! a-usize k f1 $ fjoin ! $ move ! (3 ∷ 0 ∷ []) $ fjoin ! $ move ! (2 ∷ 0 ∷ []) $ join ! $ done !
 
-  gives-fetch-order : (k : ℕ) (b4 α4 : ℕ) (γ4 : GName) → (w : Val) → ent 𝓤 (Says-fetch-order 𝓤 H A at-mem run .post (to-fetch-order k b4 α4 γ4) w) (H .⇛ (guard 𝓤 ((w ≡ a-Order .val (is-fetch-order k)) × Fine a-Order (is-fetch-order k)) (sep 𝓤 (A .lft (α4 ∷ []) fullShare) (sem 𝓤 H A ftrue))))
-  gives-fetch-order k b4 α4 γ4 = answers 𝓤 H A W a-Order (Unit {0} × (Unit {0} × Unit {0})) (λ ws. lasts fetch-order.ended ((α4 ∷ []), tt) ((record { ptr = (b4, 0); name = γ4; now = orders }), (k, tt)) ws) (λ r. r ≡ getD orders k noOrder) (is-fetch-order k) (λ r e. e) (sep 𝓤 (A .lft (α4 ∷ []) fullShare) (sem 𝓤 H A ftrue))
+  gives-fetch-input : (k : ℕ) (b4 α4 : ℕ) (γ4 : GName) → (w : Val) → ent 𝓤 (Says-fetch-input 𝓤 H A at-mem run .post (to-fetch-input k b4 α4 γ4) w) (H .⇛ (guard 𝓤 ((w ≡ a-Input .val (is-fetch-input k)) × Fine a-Input (is-fetch-input k)) (sep 𝓤 (A .lft (α4 ∷ []) fullShare) (sem 𝓤 H A ftrue))))
+  gives-fetch-input k b4 α4 γ4 = answers 𝓤 H A W a-Input (Unit {0} × (Unit {0} × Unit {0})) (λ ws. lasts fetch-input.ended ((α4 ∷ []), tt) ((record { ptr = (b4, 0); name = γ4; now = inputs }), (k, tt)) ws) (λ r. r ≡ getD inputs k noInput) (is-fetch-input k) (λ r e. e) (sep 𝓤 (A .lft (α4 ∷ []) fullShare) (sem 𝓤 H A ftrue))
+
+  abbrev is-entry-in : ℕ → Entry
+  is-entry-in k = ((is-fetch-input k) .entry)
+
+  abbrev to-entry-in : ℕ → Says-entry-in 𝓤 H A at-mem run .Ghost
+  to-entry-in k = ((tt, tt, tt, ((is-fetch-input k), tt), (a-Input .val (is-fetch-input k) ∷ [], tt)), tt)
+
+  asks-entry-in : (k : ℕ) → Fine a-Input (is-fetch-input k) → ent 𝓤 (emp 𝓤) (Says-entry-in 𝓤 H A at-mem run .pre (to-entry-in k))
+  asks-entry-in k f0 = qed W [] ∵ nothing ! $ nothing ! $ has ! a-Input (is-fetch-input k) f0 $ fjoin ! $ nothing ! $ join ! $ done !
+
+  gives-entry-in : (k : ℕ) → (w : Val) → ent 𝓤 (Says-entry-in 𝓤 H A at-mem run .post (to-entry-in k) w) (H .⇛ (guard 𝓤 ((w ≡ a-Entry .val (is-entry-in k)) × Fine a-Entry (is-entry-in k)) (emp 𝓤)))
+  gives-entry-in k = answers 𝓤 H A W a-Entry (Unit {0} × Unit {0}) (λ ws. lasts entry-in.ended tt ((is-fetch-input k), tt) ws) (λ r. r ≡ (is-fetch-input k) .entry) (is-entry-in k) (λ r e. e) (emp 𝓤)
 
   abbrev is-command-in : ℕ → Command
-  is-command-in k = ((is-fetch-order k) .command)
+  is-command-in k = (commandIn (is-entry-in k))
 
   abbrev to-command-in : ℕ → Says-command-in 𝓤 H A at-mem run .Ghost
-  to-command-in k = ((tt, tt, tt, ((is-fetch-order k), tt), (a-Order .val (is-fetch-order k) ∷ [], tt)), tt)
+  to-command-in k = ((tt, tt, tt, ((is-entry-in k), tt), (a-Entry .val (is-entry-in k) ∷ [], tt)), tt)
 
-  asks-command-in : (k : ℕ) → Fine a-Order (is-fetch-order k) → ent 𝓤 (emp 𝓤) (Says-command-in 𝓤 H A at-mem run .pre (to-command-in k))
-  asks-command-in k f0 = qed W [] ∵ nothing ! $ nothing ! $ has ! a-Order (is-fetch-order k) f0 $ fjoin ! $ nothing ! $ join ! $ done !
+  asks-command-in : (k : ℕ) → Fine a-Entry (is-entry-in k) → ent 𝓤 (emp 𝓤) (Says-command-in 𝓤 H A at-mem run .pre (to-command-in k))
+  asks-command-in k f0 = qed W [] ∵ nothing ! $ nothing ! $ has ! a-Entry (is-entry-in k) f0 $ fjoin ! $ nothing ! $ join ! $ done !
 
   gives-command-in : (k : ℕ) → (w : Val) → ent 𝓤 (Says-command-in 𝓤 H A at-mem run .post (to-command-in k) w) (H .⇛ (guard 𝓤 ((w ≡ a-Command .val (is-command-in k)) × Fine a-Command (is-command-in k)) (emp 𝓤)))
-  gives-command-in k = answers 𝓤 H A W a-Command (Unit {0} × Unit {0}) (λ ws. lasts command-in.ended tt ((is-fetch-order k), tt) ws) (λ r. r ≡ (is-fetch-order k) .command) (is-command-in k) (λ r e. e) (emp 𝓤)
+  gives-command-in k = answers 𝓤 H A W a-Command (Unit {0} × Unit {0}) (λ ws. lasts command-in.ended tt ((is-entry-in k), tt) ws) (λ r. r ≡ commandIn (is-entry-in k)) (is-command-in k) (λ r e. e) (emp 𝓤)
 
-  abbrev is-shown : ℕ → Reply
-  is-shown k = (shownOf (s-at k) (is-command-in k) (archive-at k) (log-at k) (audit-at k))
+  abbrev is-seen : ℕ → Reply
+  is-seen k = (seenOf (sound-at k) (s-at k) (is-command-in k) (archive-at k) (log-at k) (audit-at k))
 
-  abbrev to-shown : ℕ → ℕ → ℕ → GName → ℕ → ℕ → GName → ℕ → ℕ → GName → Says-shown 𝓤 H A at-mem run .Ghost
-  to-shown k b7 α7 γ7 b8 α8 γ8 b9 α9 γ9 = ((((α7 ∷ []), ((α8 ∷ []), ((α9 ∷ []), tt))), (fullShare, (fullShare, (fullShare, tt))), tt, ((s-at k), ((is-command-in k), ((record { ptr = (b7, 0); name = γ7; now = (archive-at k) }), ((record { ptr = (b8, 0); name = γ8; now = (log-at k) }), ((record { ptr = (b9, 0); name = γ9; now = (audit-at k) }), tt))))), (a-State .val (s-at k) ∷ [], (a-Command .val (is-command-in k) ∷ [], ((sliceVal (b7, 0) (length (archive-at k))) ∷ [], ((sliceVal (b8, 0) (length (log-at k))) ∷ [], ((sliceVal (b9, 0) (length (audit-at k))) ∷ [], tt)))))), tt)
+  abbrev to-seen : ℕ → ℕ → ℕ → GName → ℕ → ℕ → GName → ℕ → ℕ → GName → Says-seen 𝓤 H A at-mem run .Ghost
+  to-seen k b8 α8 γ8 b9 α9 γ9 b10 α10 γ10 = ((((α8 ∷ []), ((α9 ∷ []), ((α10 ∷ []), tt))), (fullShare, (fullShare, (fullShare, tt))), tt, ((s-at k), ((sound-at k), ((is-command-in k), ((record { ptr = (b8, 0); name = γ8; now = (archive-at k) }), ((record { ptr = (b9, 0); name = γ9; now = (log-at k) }), ((record { ptr = (b10, 0); name = γ10; now = (audit-at k) }), tt)))))), (a-State .val (s-at k) ∷ [], (a-bool .val (sound-at k) ∷ [], (a-Command .val (is-command-in k) ∷ [], ((sliceVal (b8, 0) (length (archive-at k))) ∷ [], ((sliceVal (b9, 0) (length (log-at k))) ∷ [], ((sliceVal (b10, 0) (length (audit-at k))) ∷ [], tt))))))), tt)
 
-  asks-shown : (k : ℕ) (b7 α7 : ℕ) (γ7 : GName) (b8 α8 : ℕ) (γ8 : GName) (b9 α9 : ℕ) (γ9 : GName) → Fine a-State (s-at k) → Fine a-Command (is-command-in k) → ent 𝓤 (sep 𝓤 (sep 𝓤 (A .lft (α7 ∷ []) fullShare) (sep 𝓤 (A .lft (α8 ∷ []) fullShare) (sep 𝓤 (A .lft (α9 ∷ []) fullShare) (sem 𝓤 H A ftrue)))) (sep 𝓤 (sem 𝓤 H A (ShrSlice (named 0) (α7 ∷ []) ArchiveLine′.the-row .own (record { ptr = (b7, 0); name = γ7; now = (archive-at k) }) ((sliceVal (b7, 0) (length (archive-at k))) ∷ []))) (sep 𝓤 (sem 𝓤 H A (ShrSlice (named 1) (α8 ∷ []) LogLine′.the-row .own (record { ptr = (b8, 0); name = γ8; now = (log-at k) }) ((sliceVal (b8, 0) (length (log-at k))) ∷ []))) (sem 𝓤 H A (ShrSlice (named 2) (α9 ∷ []) AuditLine′.the-row .own (record { ptr = (b9, 0); name = γ9; now = (audit-at k) }) ((sliceVal (b9, 0) (length (audit-at k))) ∷ [])))))) (Says-shown 𝓤 H A at-mem run .pre (to-shown k b7 α7 γ7 b8 α8 γ8 b9 α9 γ9))
-  asks-shown k b7 α7 γ7 b8 α8 γ8 b9 α9 γ9 f0 f1 = qed W ((‵ (flft (α7 ∷ []) fullShare) ⊛ (‵ (flft (α8 ∷ []) fullShare) ⊛ (‵ (flft (α9 ∷ []) fullShare) ⊛ ‵ ftrue))) ∷ ‵ (ShrSlice (named 0) (α7 ∷ []) ArchiveLine′.the-row .own (record { ptr = (b7, 0); name = γ7; now = (archive-at k) }) ((sliceVal (b7, 0) (length (archive-at k))) ∷ [])) ∷ ‵ (ShrSlice (named 1) (α8 ∷ []) LogLine′.the-row .own (record { ptr = (b8, 0); name = γ8; now = (log-at k) }) ((sliceVal (b8, 0) (length (log-at k))) ∷ [])) ∷ ‵ (ShrSlice (named 2) (α9 ∷ []) AuditLine′.the-row .own (record { ptr = (b9, 0); name = γ9; now = (audit-at k) }) ((sliceVal (b9, 0) (length (audit-at k))) ∷ [])) ∷ []) ∵ nothing ! $ nothing ! $ move ! (5 ∷ 0 ∷ []) $ fjoin ! $ move ! (4 ∷ 0 ∷ []) $ fjoin ! $ move ! (3 ∷ 0 ∷ []) $ fjoin ! $ has ! a-Command (is-command-in k) f1 $ fjoin ! $ has ! a-State (s-at k) f0 $ fjoin ! $ move ! (2 ∷ 0 ∷ []) $ join ! $ done !
+  asks-seen : (k : ℕ) (b8 α8 : ℕ) (γ8 : GName) (b9 α9 : ℕ) (γ9 : GName) (b10 α10 : ℕ) (γ10 : GName) → Fine a-State (s-at k) → Fine a-bool (sound-at k) → Fine a-Command (is-command-in k) → ent 𝓤 (sep 𝓤 (sep 𝓤 (A .lft (α8 ∷ []) fullShare) (sep 𝓤 (A .lft (α9 ∷ []) fullShare) (sep 𝓤 (A .lft (α10 ∷ []) fullShare) (sem 𝓤 H A ftrue)))) (sep 𝓤 (sem 𝓤 H A (ShrSlice (named 0) (α8 ∷ []) ArchiveLine′.the-row .own (record { ptr = (b8, 0); name = γ8; now = (archive-at k) }) ((sliceVal (b8, 0) (length (archive-at k))) ∷ []))) (sep 𝓤 (sem 𝓤 H A (ShrSlice (named 1) (α9 ∷ []) LogLine′.the-row .own (record { ptr = (b9, 0); name = γ9; now = (log-at k) }) ((sliceVal (b9, 0) (length (log-at k))) ∷ []))) (sem 𝓤 H A (ShrSlice (named 2) (α10 ∷ []) AuditLine′.the-row .own (record { ptr = (b10, 0); name = γ10; now = (audit-at k) }) ((sliceVal (b10, 0) (length (audit-at k))) ∷ [])))))) (Says-seen 𝓤 H A at-mem run .pre (to-seen k b8 α8 γ8 b9 α9 γ9 b10 α10 γ10))
+  asks-seen k b8 α8 γ8 b9 α9 γ9 b10 α10 γ10 f0 f1 f2 = qed W ((‵ (flft (α8 ∷ []) fullShare) ⊛ (‵ (flft (α9 ∷ []) fullShare) ⊛ (‵ (flft (α10 ∷ []) fullShare) ⊛ ‵ ftrue))) ∷ ‵ (ShrSlice (named 0) (α8 ∷ []) ArchiveLine′.the-row .own (record { ptr = (b8, 0); name = γ8; now = (archive-at k) }) ((sliceVal (b8, 0) (length (archive-at k))) ∷ [])) ∷ ‵ (ShrSlice (named 1) (α9 ∷ []) LogLine′.the-row .own (record { ptr = (b9, 0); name = γ9; now = (log-at k) }) ((sliceVal (b9, 0) (length (log-at k))) ∷ [])) ∷ ‵ (ShrSlice (named 2) (α10 ∷ []) AuditLine′.the-row .own (record { ptr = (b10, 0); name = γ10; now = (audit-at k) }) ((sliceVal (b10, 0) (length (audit-at k))) ∷ [])) ∷ []) ∵ nothing ! $ nothing ! $ move ! (5 ∷ 0 ∷ []) $ fjoin ! $ move ! (4 ∷ 0 ∷ []) $ fjoin ! $ move ! (3 ∷ 0 ∷ []) $ fjoin ! $ has ! a-Command (is-command-in k) f2 $ fjoin ! $ has ! a-bool (sound-at k) f1 $ fjoin ! $ has ! a-State (s-at k) f0 $ fjoin ! $ move ! (2 ∷ 0 ∷ []) $ join ! $ done !
 
-  gives-shown : (k : ℕ) (b7 α7 : ℕ) (γ7 : GName) (b8 α8 : ℕ) (γ8 : GName) (b9 α9 : ℕ) (γ9 : GName) → (w : Val) → ent 𝓤 (Says-shown 𝓤 H A at-mem run .post (to-shown k b7 α7 γ7 b8 α8 γ8 b9 α9 γ9) w) (H .⇛ (guard 𝓤 ((w ≡ a-Reply .val (is-shown k)) × Fine a-Reply (is-shown k)) (sep 𝓤 (A .lft (α7 ∷ []) fullShare) (sep 𝓤 (A .lft (α8 ∷ []) fullShare) (sep 𝓤 (A .lft (α9 ∷ []) fullShare) (sem 𝓤 H A ftrue))))))
-  gives-shown k b7 α7 γ7 b8 α8 γ8 b9 α9 γ9 = answers 𝓤 H A W a-Reply (Unit {0} × (Unit {0} × (Unit {0} × (Unit {0} × (Unit {0} × Unit {0}))))) (λ ws. lasts shown.ended ((α7 ∷ []), ((α8 ∷ []), ((α9 ∷ []), tt))) ((s-at k), ((is-command-in k), ((record { ptr = (b7, 0); name = γ7; now = (archive-at k) }), ((record { ptr = (b8, 0); name = γ8; now = (log-at k) }), ((record { ptr = (b9, 0); name = γ9; now = (audit-at k) }), tt))))) ws) (λ r. r ≡ shownOf (s-at k) (is-command-in k) (archive-at k) (log-at k) (audit-at k)) (is-shown k) (λ r e. e) (sep 𝓤 (A .lft (α7 ∷ []) fullShare) (sep 𝓤 (A .lft (α8 ∷ []) fullShare) (sep 𝓤 (A .lft (α9 ∷ []) fullShare) (sem 𝓤 H A ftrue))))
+  gives-seen : (k : ℕ) (b8 α8 : ℕ) (γ8 : GName) (b9 α9 : ℕ) (γ9 : GName) (b10 α10 : ℕ) (γ10 : GName) → (w : Val) → ent 𝓤 (Says-seen 𝓤 H A at-mem run .post (to-seen k b8 α8 γ8 b9 α9 γ9 b10 α10 γ10) w) (H .⇛ (guard 𝓤 ((w ≡ a-Reply .val (is-seen k)) × Fine a-Reply (is-seen k)) (sep 𝓤 (A .lft (α8 ∷ []) fullShare) (sep 𝓤 (A .lft (α9 ∷ []) fullShare) (sep 𝓤 (A .lft (α10 ∷ []) fullShare) (sem 𝓤 H A ftrue))))))
+  gives-seen k b8 α8 γ8 b9 α9 γ9 b10 α10 γ10 = answers 𝓤 H A W a-Reply (Unit {0} × (Unit {0} × (Unit {0} × (Unit {0} × (Unit {0} × (Unit {0} × Unit {0})))))) (λ ws. lasts seen.ended ((α8 ∷ []), ((α9 ∷ []), ((α10 ∷ []), tt))) ((s-at k), ((sound-at k), ((is-command-in k), ((record { ptr = (b8, 0); name = γ8; now = (archive-at k) }), ((record { ptr = (b9, 0); name = γ9; now = (log-at k) }), ((record { ptr = (b10, 0); name = γ10; now = (audit-at k) }), tt)))))) ws) (λ r. r ≡ seenOf (sound-at k) (s-at k) (is-command-in k) (archive-at k) (log-at k) (audit-at k)) (is-seen k) (λ r e. e) (sep 𝓤 (A .lft (α8 ∷ []) fullShare) (sep 𝓤 (A .lft (α9 ∷ []) fullShare) (sep 𝓤 (A .lft (α10 ∷ []) fullShare) (sem 𝓤 H A ftrue))))
 
-  abbrev is-answer : ℕ → Turn
-  is-answer k = (turnOf (s-at k) (is-command-in k) (is-shown k) (archive-at k) (log-at k) (audit-at k) .turn)
+  abbrev is-answer : ℕ → Answer
+  is-answer k = (answerIn (turnOf (sound-at k) (s-at k) (is-command-in k) (is-seen k) (archive-at k) (log-at k) (audit-at k)))
 
-  abbrev is-answer-array7 : ℕ → List ArchiveLine
-  is-answer-array7 k = (turnOf (s-at k) (is-command-in k) (is-shown k) (archive-at k) (log-at k) (audit-at k) .archive)
+  abbrev is-answer-array8 : ℕ → List ArchiveLine
+  is-answer-array8 k = (turnOf (sound-at k) (s-at k) (is-command-in k) (is-seen k) (archive-at k) (log-at k) (audit-at k) .0 .archive)
 
-  abbrev is-answer-array8 : ℕ → List LogLine
-  is-answer-array8 k = (turnOf (s-at k) (is-command-in k) (is-shown k) (archive-at k) (log-at k) (audit-at k) .log)
+  abbrev is-answer-array9 : ℕ → List LogLine
+  is-answer-array9 k = (turnOf (sound-at k) (s-at k) (is-command-in k) (is-seen k) (archive-at k) (log-at k) (audit-at k) .0 .log)
 
-  abbrev is-answer-array9 : ℕ → List AuditLine
-  is-answer-array9 k = (turnOf (s-at k) (is-command-in k) (is-shown k) (archive-at k) (log-at k) (audit-at k) .audit)
+  abbrev is-answer-array10 : ℕ → List AuditLine
+  is-answer-array10 k = (turnOf (sound-at k) (s-at k) (is-command-in k) (is-seen k) (archive-at k) (log-at k) (audit-at k) .0 .audit)
 
   abbrev to-answer : ℕ → ℕ → ℕ → GName → ℕ → ℕ → GName → ℕ → ℕ → GName → Says-answer 𝓤 H A at-mem run .Ghost
-  to-answer k b7 α7 γ7 b8 α8 γ8 b9 α9 γ9 = ((((α7 ∷ []), ((α8 ∷ []), ((α9 ∷ []), tt))), (fullShare, (fullShare, (fullShare, tt))), tt, ((s-at k), ((is-command-in k), ((is-shown k), ((record { ptr = (b7, 0); name = γ7; now = (archive-at k) }), ((record { ptr = (b8, 0); name = γ8; now = (log-at k) }), ((record { ptr = (b9, 0); name = γ9; now = (audit-at k) }), tt)))))), (a-State .val (s-at k) ∷ [], (a-Command .val (is-command-in k) ∷ [], (a-Reply .val (is-shown k) ∷ [], ((sliceVal (b7, 0) (length (archive-at k))) ∷ [], ((sliceVal (b8, 0) (length (log-at k))) ∷ [], ((sliceVal (b9, 0) (length (audit-at k))) ∷ [], tt))))))), tt)
+  to-answer k b8 α8 γ8 b9 α9 γ9 b10 α10 γ10 = ((((α8 ∷ []), ((α9 ∷ []), ((α10 ∷ []), tt))), (fullShare, (fullShare, (fullShare, tt))), tt, ((s-at k), ((sound-at k), ((is-command-in k), ((is-seen k), ((record { ptr = (b8, 0); name = γ8; now = (archive-at k) }), ((record { ptr = (b9, 0); name = γ9; now = (log-at k) }), ((record { ptr = (b10, 0); name = γ10; now = (audit-at k) }), tt))))))), (a-State .val (s-at k) ∷ [], (a-bool .val (sound-at k) ∷ [], (a-Command .val (is-command-in k) ∷ [], (a-Reply .val (is-seen k) ∷ [], ((sliceVal (b8, 0) (length (archive-at k))) ∷ [], ((sliceVal (b9, 0) (length (log-at k))) ∷ [], ((sliceVal (b10, 0) (length (audit-at k))) ∷ [], tt)))))))), tt)
 
-  asks-answer : (k : ℕ) (b7 α7 : ℕ) (γ7 : GName) (b8 α8 : ℕ) (γ8 : GName) (b9 α9 : ℕ) (γ9 : GName) → Fine a-State (s-at k) → Fine a-Command (is-command-in k) → Fine a-Reply (is-shown k) → ent 𝓤 (sep 𝓤 (sep 𝓤 (A .lft (α7 ∷ []) fullShare) (sep 𝓤 (A .lft (α8 ∷ []) fullShare) (sep 𝓤 (A .lft (α9 ∷ []) fullShare) (sem 𝓤 H A ftrue)))) (sep 𝓤 (sem 𝓤 H A (MutSlice (named 0) (α7 ∷ []) ArchiveLine′.the-row .own (record { ptr = (b7, 0); name = γ7; now = (archive-at k) }) ((sliceVal (b7, 0) (length (archive-at k))) ∷ []))) (sep 𝓤 (sem 𝓤 H A (MutSlice (named 1) (α8 ∷ []) LogLine′.the-row .own (record { ptr = (b8, 0); name = γ8; now = (log-at k) }) ((sliceVal (b8, 0) (length (log-at k))) ∷ []))) (sem 𝓤 H A (MutSlice (named 2) (α9 ∷ []) AuditLine′.the-row .own (record { ptr = (b9, 0); name = γ9; now = (audit-at k) }) ((sliceVal (b9, 0) (length (audit-at k))) ∷ [])))))) (Says-answer 𝓤 H A at-mem run .pre (to-answer k b7 α7 γ7 b8 α8 γ8 b9 α9 γ9))
-  asks-answer k b7 α7 γ7 b8 α8 γ8 b9 α9 γ9 f0 f1 f2 = qed W ((‵ (flft (α7 ∷ []) fullShare) ⊛ (‵ (flft (α8 ∷ []) fullShare) ⊛ (‵ (flft (α9 ∷ []) fullShare) ⊛ ‵ ftrue))) ∷ ‵ (MutSlice (named 0) (α7 ∷ []) ArchiveLine′.the-row .own (record { ptr = (b7, 0); name = γ7; now = (archive-at k) }) ((sliceVal (b7, 0) (length (archive-at k))) ∷ [])) ∷ ‵ (MutSlice (named 1) (α8 ∷ []) LogLine′.the-row .own (record { ptr = (b8, 0); name = γ8; now = (log-at k) }) ((sliceVal (b8, 0) (length (log-at k))) ∷ [])) ∷ ‵ (MutSlice (named 2) (α9 ∷ []) AuditLine′.the-row .own (record { ptr = (b9, 0); name = γ9; now = (audit-at k) }) ((sliceVal (b9, 0) (length (audit-at k))) ∷ [])) ∷ []) ∵ nothing ! $ nothing ! $ move ! (5 ∷ 0 ∷ []) $ fjoin ! $ move ! (4 ∷ 0 ∷ []) $ fjoin ! $ move ! (3 ∷ 0 ∷ []) $ fjoin ! $ has ! a-Reply (is-shown k) f2 $ fjoin ! $ has ! a-Command (is-command-in k) f1 $ fjoin ! $ has ! a-State (s-at k) f0 $ fjoin ! $ move ! (2 ∷ 0 ∷ []) $ join ! $ done !
+  asks-answer : (k : ℕ) (b8 α8 : ℕ) (γ8 : GName) (b9 α9 : ℕ) (γ9 : GName) (b10 α10 : ℕ) (γ10 : GName) → Fine a-State (s-at k) → Fine a-bool (sound-at k) → Fine a-Command (is-command-in k) → Fine a-Reply (is-seen k) → ent 𝓤 (sep 𝓤 (sep 𝓤 (A .lft (α8 ∷ []) fullShare) (sep 𝓤 (A .lft (α9 ∷ []) fullShare) (sep 𝓤 (A .lft (α10 ∷ []) fullShare) (sem 𝓤 H A ftrue)))) (sep 𝓤 (sem 𝓤 H A (MutSlice (named 0) (α8 ∷ []) ArchiveLine′.the-row .own (record { ptr = (b8, 0); name = γ8; now = (archive-at k) }) ((sliceVal (b8, 0) (length (archive-at k))) ∷ []))) (sep 𝓤 (sem 𝓤 H A (MutSlice (named 1) (α9 ∷ []) LogLine′.the-row .own (record { ptr = (b9, 0); name = γ9; now = (log-at k) }) ((sliceVal (b9, 0) (length (log-at k))) ∷ []))) (sem 𝓤 H A (MutSlice (named 2) (α10 ∷ []) AuditLine′.the-row .own (record { ptr = (b10, 0); name = γ10; now = (audit-at k) }) ((sliceVal (b10, 0) (length (audit-at k))) ∷ [])))))) (Says-answer 𝓤 H A at-mem run .pre (to-answer k b8 α8 γ8 b9 α9 γ9 b10 α10 γ10))
+  asks-answer k b8 α8 γ8 b9 α9 γ9 b10 α10 γ10 f0 f1 f2 f3 = qed W ((‵ (flft (α8 ∷ []) fullShare) ⊛ (‵ (flft (α9 ∷ []) fullShare) ⊛ (‵ (flft (α10 ∷ []) fullShare) ⊛ ‵ ftrue))) ∷ ‵ (MutSlice (named 0) (α8 ∷ []) ArchiveLine′.the-row .own (record { ptr = (b8, 0); name = γ8; now = (archive-at k) }) ((sliceVal (b8, 0) (length (archive-at k))) ∷ [])) ∷ ‵ (MutSlice (named 1) (α9 ∷ []) LogLine′.the-row .own (record { ptr = (b9, 0); name = γ9; now = (log-at k) }) ((sliceVal (b9, 0) (length (log-at k))) ∷ [])) ∷ ‵ (MutSlice (named 2) (α10 ∷ []) AuditLine′.the-row .own (record { ptr = (b10, 0); name = γ10; now = (audit-at k) }) ((sliceVal (b10, 0) (length (audit-at k))) ∷ [])) ∷ []) ∵ nothing ! $ nothing ! $ move ! (5 ∷ 0 ∷ []) $ fjoin ! $ move ! (4 ∷ 0 ∷ []) $ fjoin ! $ move ! (3 ∷ 0 ∷ []) $ fjoin ! $ has ! a-Reply (is-seen k) f3 $ fjoin ! $ has ! a-Command (is-command-in k) f2 $ fjoin ! $ has ! a-bool (sound-at k) f1 $ fjoin ! $ has ! a-State (s-at k) f0 $ fjoin ! $ move ! (2 ∷ 0 ∷ []) $ join ! $ done !
 
-  gives-answer : (k : ℕ) (b7 α7 : ℕ) (γ7 : GName) (b8 α8 : ℕ) (γ8 : GName) (b9 α9 : ℕ) (γ9 : GName) → (w : Val) → ent 𝓤 (Says-answer 𝓤 H A at-mem run .post (to-answer k b7 α7 γ7 b8 α8 γ8 b9 α9 γ9) w) (H .⇛ (guard 𝓤 ((w ≡ a-Turn .val (is-answer k)) × Fine a-Turn (is-answer k)) (sep 𝓤 (sep 𝓤 (A .lft (α7 ∷ []) fullShare) (sep 𝓤 (A .lft (α8 ∷ []) fullShare) (sep 𝓤 (A .lft (α9 ∷ []) fullShare) (sem 𝓤 H A ftrue)))) (sem 𝓤 H A (fsep ftrue (fsep ftrue (fsep ftrue (fsep (fsep (finally ArchiveLine′.the-row γ7 (is-answer-array7 k)) (feq ℕ (length (is-answer-array7 k)) (length (archive-at k)))) (fsep (fsep (finally LogLine′.the-row γ8 (is-answer-array8 k)) (feq ℕ (length (is-answer-array8 k)) (length (log-at k)))) (fsep (fsep (finally AuditLine′.the-row γ9 (is-answer-array9 k)) (feq ℕ (length (is-answer-array9 k)) (length (audit-at k)))) ftrue))))))))))
-  gives-answer k b7 α7 γ7 b8 α8 γ8 b9 α9 γ9 = gives 𝓤 H A W a-Turn (Unit {0} × (Unit {0} × (Unit {0} × (List ArchiveLine × (List LogLine × (List AuditLine × Unit {0})))))) (λ ws. lasts answer.ended ((α7 ∷ []), ((α8 ∷ []), ((α9 ∷ []), tt))) ((s-at k), ((is-command-in k), ((is-shown k), ((record { ptr = (b7, 0); name = γ7; now = (archive-at k) }), ((record { ptr = (b8, 0); name = γ8; now = (log-at k) }), ((record { ptr = (b9, 0); name = γ9; now = (audit-at k) }), tt)))))) ws) (λ r ws. (r ≡ turnOf (s-at k) (is-command-in k) (is-shown k) (archive-at k) (log-at k) (audit-at k) .turn) × (((ws .1 .1 .1 .0) ≡ turnOf (s-at k) (is-command-in k) (is-shown k) (archive-at k) (log-at k) (audit-at k) .archive) × (((ws .1 .1 .1 .1 .0) ≡ turnOf (s-at k) (is-command-in k) (is-shown k) (archive-at k) (log-at k) (audit-at k) .log) × ((ws .1 .1 .1 .1 .1 .0) ≡ turnOf (s-at k) (is-command-in k) (is-shown k) (archive-at k) (log-at k) (audit-at k) .audit)))) (is-answer k) (tt, (tt, (tt, ((is-answer-array7 k), ((is-answer-array8 k), ((is-answer-array9 k), tt)))))) (λ r ws e. (e .0, ap (λ (l : List ArchiveLine). (tt, (tt, (tt, (l, (ws .1 .1 .1 .1 .0, (ws .1 .1 .1 .1 .1 .0, tt))))))) (e .1 .0) ∙ ap (λ (l : List LogLine). (tt, (tt, (tt, ((is-answer-array7 k), (l, (ws .1 .1 .1 .1 .1 .0, tt))))))) (e .1 .1 .0) ∙ ap (λ (l : List AuditLine). (tt, (tt, (tt, ((is-answer-array7 k), ((is-answer-array8 k), (l, tt))))))) (e .1 .1 .1))) (sep 𝓤 (A .lft (α7 ∷ []) fullShare) (sep 𝓤 (A .lft (α8 ∷ []) fullShare) (sep 𝓤 (A .lft (α9 ∷ []) fullShare) (sem 𝓤 H A ftrue))))
+  gives-answer : (k : ℕ) (b8 α8 : ℕ) (γ8 : GName) (b9 α9 : ℕ) (γ9 : GName) (b10 α10 : ℕ) (γ10 : GName) → (w : Val) → ent 𝓤 (Says-answer 𝓤 H A at-mem run .post (to-answer k b8 α8 γ8 b9 α9 γ9 b10 α10 γ10) w) (H .⇛ (guard 𝓤 ((w ≡ a-Answer .val (is-answer k)) × Fine a-Answer (is-answer k)) (sep 𝓤 (sep 𝓤 (A .lft (α8 ∷ []) fullShare) (sep 𝓤 (A .lft (α9 ∷ []) fullShare) (sep 𝓤 (A .lft (α10 ∷ []) fullShare) (sem 𝓤 H A ftrue)))) (sem 𝓤 H A (fsep ftrue (fsep ftrue (fsep ftrue (fsep ftrue (fsep (fsep (finally ArchiveLine′.the-row γ8 (is-answer-array8 k)) (feq ℕ (length (is-answer-array8 k)) (length (archive-at k)))) (fsep (fsep (finally LogLine′.the-row γ9 (is-answer-array9 k)) (feq ℕ (length (is-answer-array9 k)) (length (log-at k)))) (fsep (fsep (finally AuditLine′.the-row γ10 (is-answer-array10 k)) (feq ℕ (length (is-answer-array10 k)) (length (audit-at k)))) ftrue)))))))))))
+  gives-answer k b8 α8 γ8 b9 α9 γ9 b10 α10 γ10 = gives 𝓤 H A W a-Answer (Unit {0} × (Unit {0} × (Unit {0} × (Unit {0} × (List ArchiveLine × (List LogLine × (List AuditLine × Unit {0}))))))) (λ ws. lasts answer.ended ((α8 ∷ []), ((α9 ∷ []), ((α10 ∷ []), tt))) ((s-at k), ((sound-at k), ((is-command-in k), ((is-seen k), ((record { ptr = (b8, 0); name = γ8; now = (archive-at k) }), ((record { ptr = (b9, 0); name = γ9; now = (log-at k) }), ((record { ptr = (b10, 0); name = γ10; now = (audit-at k) }), tt))))))) ws) (λ r ws. (r ≡ answerIn (turnOf (sound-at k) (s-at k) (is-command-in k) (is-seen k) (archive-at k) (log-at k) (audit-at k))) × (((ws .1 .1 .1 .1 .0) ≡ turnOf (sound-at k) (s-at k) (is-command-in k) (is-seen k) (archive-at k) (log-at k) (audit-at k) .0 .archive) × (((ws .1 .1 .1 .1 .1 .0) ≡ turnOf (sound-at k) (s-at k) (is-command-in k) (is-seen k) (archive-at k) (log-at k) (audit-at k) .0 .log) × ((ws .1 .1 .1 .1 .1 .1 .0) ≡ turnOf (sound-at k) (s-at k) (is-command-in k) (is-seen k) (archive-at k) (log-at k) (audit-at k) .0 .audit)))) (is-answer k) (tt, (tt, (tt, (tt, ((is-answer-array8 k), ((is-answer-array9 k), ((is-answer-array10 k), tt))))))) (λ r ws e. (e .0, ap (λ (l : List ArchiveLine). (tt, (tt, (tt, (tt, (l, (ws .1 .1 .1 .1 .1 .0, (ws .1 .1 .1 .1 .1 .1 .0, tt)))))))) (e .1 .0) ∙ ap (λ (l : List LogLine). (tt, (tt, (tt, (tt, ((is-answer-array8 k), (l, (ws .1 .1 .1 .1 .1 .1 .0, tt)))))))) (e .1 .1 .0) ∙ ap (λ (l : List AuditLine). (tt, (tt, (tt, (tt, ((is-answer-array8 k), ((is-answer-array9 k), (l, tt)))))))) (e .1 .1 .1))) (sep 𝓤 (A .lft (α8 ∷ []) fullShare) (sep 𝓤 (A .lft (α9 ∷ []) fullShare) (sep 𝓤 (A .lft (α10 ∷ []) fullShare) (sem 𝓤 H A ftrue))))
 
-  abbrev is-said-in : ℕ → Said
-  is-said-in k = (saidOf (is-answer k))
+  abbrev is-answered-in : ℕ → Answer
+  is-answered-in k = (answeredIn (is-entry-in k) (is-answer k))
 
-  abbrev to-said-in : ℕ → Says-said-in 𝓤 H A at-mem run .Ghost
-  to-said-in k = ((tt, tt, tt, ((is-answer k), tt), (a-Turn .val (is-answer k) ∷ [], tt)), tt)
+  abbrev to-answered-in : ℕ → Says-answered-in 𝓤 H A at-mem run .Ghost
+  to-answered-in k = ((tt, tt, tt, ((is-entry-in k), ((is-answer k), tt)), (a-Entry .val (is-entry-in k) ∷ [], (a-Answer .val (is-answer k) ∷ [], tt))), tt)
 
-  asks-said-in : (k : ℕ) → Fine a-Turn (is-answer k) → ent 𝓤 (emp 𝓤) (Says-said-in 𝓤 H A at-mem run .pre (to-said-in k))
-  asks-said-in k f0 = qed W [] ∵ nothing ! $ nothing ! $ has ! a-Turn (is-answer k) f0 $ fjoin ! $ nothing ! $ join ! $ done !
+  asks-answered-in : (k : ℕ) → Fine a-Entry (is-entry-in k) → Fine a-Answer (is-answer k) → ent 𝓤 (emp 𝓤) (Says-answered-in 𝓤 H A at-mem run .pre (to-answered-in k))
+  asks-answered-in k f0 f1 = qed W [] ∵ nothing ! $ nothing ! $ has ! a-Answer (is-answer k) f1 $ fjoin ! $ has ! a-Entry (is-entry-in k) f0 $ fjoin ! $ nothing ! $ join ! $ done !
 
-  gives-said-in : (k : ℕ) → (w : Val) → ent 𝓤 (Says-said-in 𝓤 H A at-mem run .post (to-said-in k) w) (H .⇛ (guard 𝓤 ((w ≡ a-Said .val (is-said-in k)) × Fine a-Said (is-said-in k)) (emp 𝓤)))
-  gives-said-in k = answers 𝓤 H A W a-Said (Unit {0} × Unit {0}) (λ ws. lasts said-in.ended tt ((is-answer k), tt) ws) (λ r. r ≡ saidOf (is-answer k)) (is-said-in k) (λ r e. e) (emp 𝓤)
+  gives-answered-in : (k : ℕ) → (w : Val) → ent 𝓤 (Says-answered-in 𝓤 H A at-mem run .post (to-answered-in k) w) (H .⇛ (guard 𝓤 ((w ≡ a-Answer .val (is-answered-in k)) × Fine a-Answer (is-answered-in k)) (emp 𝓤)))
+  gives-answered-in k = answers 𝓤 H A W a-Answer (Unit {0} × (Unit {0} × Unit {0})) (λ ws. lasts answered-in.ended tt ((is-entry-in k), ((is-answer k), tt)) ws) (λ r. r ≡ answeredIn (is-entry-in k) (is-answer k)) (is-answered-in k) (λ r e. e) (emp 𝓤)
 
-  abbrev is-put-said-array10 : ℕ → List Said
-  is-put-said-array10 k = (set (said-at k) k (is-said-in k))
+  abbrev is-output-by : ℕ → Output
+  is-output-by k = (outputBy (is-entry-in k) (is-answered-in k))
 
-  abbrev to-put-said : ℕ → ℕ → ℕ → GName → Says-put-said 𝓤 H A at-mem run .Ghost
-  to-put-said k b10 α10 γ10 = ((((α10 ∷ []), tt), (fullShare, tt), tt, ((record { ptr = (b10, 0); name = γ10; now = (said-at k) }), (k, ((is-said-in k), tt))), ((sliceVal (b10, 0) (length (said-at k))) ∷ [], (a-usize .val k ∷ [], (a-Said .val (is-said-in k) ∷ [], tt)))), tt)
+  abbrev to-output-by : ℕ → Says-output-by 𝓤 H A at-mem run .Ghost
+  to-output-by k = ((tt, tt, tt, ((is-entry-in k), ((is-answered-in k), tt)), (a-Entry .val (is-entry-in k) ∷ [], (a-Answer .val (is-answered-in k) ∷ [], tt))), tt)
 
-  asks-put-said : (k : ℕ) (b10 α10 : ℕ) (γ10 : GName) → Fine a-usize k → Fine a-Said (is-said-in k) → ent 𝓤 (sep 𝓤 (sep 𝓤 (A .lft (α10 ∷ []) fullShare) (sem 𝓤 H A ftrue)) (sem 𝓤 H A (MutSlice (named 0) (α10 ∷ []) Said′.the-row .own (record { ptr = (b10, 0); name = γ10; now = (said-at k) }) ((sliceVal (b10, 0) (length (said-at k))) ∷ [])))) (Says-put-said 𝓤 H A at-mem run .pre (to-put-said k b10 α10 γ10))
-  asks-put-said k b10 α10 γ10 f1 f2 = qed W ((‵ (flft (α10 ∷ []) fullShare) ⊛ ‵ ftrue) ∷ ‵ (MutSlice (named 0) (α10 ∷ []) Said′.the-row .own (record { ptr = (b10, 0); name = γ10; now = (said-at k) }) ((sliceVal (b10, 0) (length (said-at k))) ∷ [])) ∷ []) ∵ nothing ! $ nothing ! $ has ! a-Said (is-said-in k) f2 $ fjoin ! $ has ! a-usize k f1 $ fjoin ! $ move ! (3 ∷ 0 ∷ []) $ fjoin ! $ move ! (2 ∷ 0 ∷ []) $ join ! $ done !
+  asks-output-by : (k : ℕ) → Fine a-Entry (is-entry-in k) → Fine a-Answer (is-answered-in k) → ent 𝓤 (emp 𝓤) (Says-output-by 𝓤 H A at-mem run .pre (to-output-by k))
+  asks-output-by k f0 f1 = qed W [] ∵ nothing ! $ nothing ! $ has ! a-Answer (is-answered-in k) f1 $ fjoin ! $ has ! a-Entry (is-entry-in k) f0 $ fjoin ! $ nothing ! $ join ! $ done !
 
-  gives-put-said : (k : ℕ) (b10 α10 : ℕ) (γ10 : GName) → (w : Val) → ent 𝓤 (Says-put-said 𝓤 H A at-mem run .post (to-put-said k b10 α10 γ10) w) (H .⇛ (guard 𝓤 ((w ≡ a-unit .val tt) × Fine a-unit tt) (sep 𝓤 (sep 𝓤 (A .lft (α10 ∷ []) fullShare) (sem 𝓤 H A ftrue)) (sem 𝓤 H A (fsep (fsep (finally Said′.the-row γ10 (is-put-said-array10 k)) (feq ℕ (length (is-put-said-array10 k)) (length (said-at k)))) (fsep ftrue (fsep ftrue ftrue)))))))
-  gives-put-said k b10 α10 γ10 = gives 𝓤 H A W a-unit (List Said × (Unit {0} × (Unit {0} × Unit {0}))) (λ ws. lasts put-said.ended ((α10 ∷ []), tt) ((record { ptr = (b10, 0); name = γ10; now = (said-at k) }), (k, ((is-said-in k), tt))) ws) (λ r ws. (ws .0) ≡ set (said-at k) k (is-said-in k)) tt ((is-put-said-array10 k), (tt, (tt, tt))) (λ r ws e. (refl, ap (λ (l : List Said). (l, (tt, (tt, tt)))) (e))) (sep 𝓤 (A .lft (α10 ∷ []) fullShare) (sem 𝓤 H A ftrue))
+  gives-output-by : (k : ℕ) → (w : Val) → ent 𝓤 (Says-output-by 𝓤 H A at-mem run .post (to-output-by k) w) (H .⇛ (guard 𝓤 ((w ≡ a-Output .val (is-output-by k)) × Fine a-Output (is-output-by k)) (emp 𝓤)))
+  gives-output-by k = answers 𝓤 H A W a-Output (Unit {0} × (Unit {0} × Unit {0})) (λ ws. lasts output-by.ended tt ((is-entry-in k), ((is-answered-in k), tt)) ws) (λ r. r ≡ outputBy (is-entry-in k) (is-answered-in k)) (is-output-by k) (λ r e. e) (emp 𝓤)
+
+  abbrev is-put-output-array11 : ℕ → List Output
+  is-put-output-array11 k = (set (outputs-at k) k (is-output-by k))
+
+  abbrev to-put-output : ℕ → ℕ → ℕ → GName → Says-put-output 𝓤 H A at-mem run .Ghost
+  to-put-output k b11 α11 γ11 = ((((α11 ∷ []), tt), (fullShare, tt), tt, ((record { ptr = (b11, 0); name = γ11; now = (outputs-at k) }), (k, ((is-output-by k), tt))), ((sliceVal (b11, 0) (length (outputs-at k))) ∷ [], (a-usize .val k ∷ [], (a-Output .val (is-output-by k) ∷ [], tt)))), tt)
+
+  asks-put-output : (k : ℕ) (b11 α11 : ℕ) (γ11 : GName) → Fine a-usize k → Fine a-Output (is-output-by k) → ent 𝓤 (sep 𝓤 (sep 𝓤 (A .lft (α11 ∷ []) fullShare) (sem 𝓤 H A ftrue)) (sem 𝓤 H A (MutSlice (named 0) (α11 ∷ []) Output′.the-row .own (record { ptr = (b11, 0); name = γ11; now = (outputs-at k) }) ((sliceVal (b11, 0) (length (outputs-at k))) ∷ [])))) (Says-put-output 𝓤 H A at-mem run .pre (to-put-output k b11 α11 γ11))
+  asks-put-output k b11 α11 γ11 f1 f2 = qed W ((‵ (flft (α11 ∷ []) fullShare) ⊛ ‵ ftrue) ∷ ‵ (MutSlice (named 0) (α11 ∷ []) Output′.the-row .own (record { ptr = (b11, 0); name = γ11; now = (outputs-at k) }) ((sliceVal (b11, 0) (length (outputs-at k))) ∷ [])) ∷ []) ∵ nothing ! $ nothing ! $ has ! a-Output (is-output-by k) f2 $ fjoin ! $ has ! a-usize k f1 $ fjoin ! $ move ! (3 ∷ 0 ∷ []) $ fjoin ! $ move ! (2 ∷ 0 ∷ []) $ join ! $ done !
+
+  gives-put-output : (k : ℕ) (b11 α11 : ℕ) (γ11 : GName) → (w : Val) → ent 𝓤 (Says-put-output 𝓤 H A at-mem run .post (to-put-output k b11 α11 γ11) w) (H .⇛ (guard 𝓤 ((w ≡ a-unit .val tt) × Fine a-unit tt) (sep 𝓤 (sep 𝓤 (A .lft (α11 ∷ []) fullShare) (sem 𝓤 H A ftrue)) (sem 𝓤 H A (fsep (fsep (finally Output′.the-row γ11 (is-put-output-array11 k)) (feq ℕ (length (is-put-output-array11 k)) (length (outputs-at k)))) (fsep ftrue (fsep ftrue ftrue)))))))
+  gives-put-output k b11 α11 γ11 = gives 𝓤 H A W a-unit (List Output × (Unit {0} × (Unit {0} × Unit {0}))) (λ ws. lasts put-output.ended ((α11 ∷ []), tt) ((record { ptr = (b11, 0); name = γ11; now = (outputs-at k) }), (k, ((is-output-by k), tt))) ws) (λ r ws. (ws .0) ≡ set (outputs-at k) k (is-output-by k)) tt ((is-put-output-array11 k), (tt, (tt, tt))) (λ r ws e. (refl, ap (λ (l : List Output). (l, (tt, (tt, tt)))) (e))) (sep 𝓤 (A .lft (α11 ∷ []) fullShare) (sem 𝓤 H A ftrue))
 
   abbrev is-state-in : ℕ → State
-  is-state-in k = ((is-answer k) .state)
+  is-state-in k = ((is-answered-in k) .state)
 
   abbrev to-state-in : ℕ → Says-state-in 𝓤 H A at-mem run .Ghost
-  to-state-in k = ((tt, tt, tt, ((is-answer k), tt), (a-Turn .val (is-answer k) ∷ [], tt)), tt)
+  to-state-in k = ((tt, tt, tt, ((is-answered-in k), tt), (a-Answer .val (is-answered-in k) ∷ [], tt)), tt)
 
-  asks-state-in : (k : ℕ) → Fine a-Turn (is-answer k) → ent 𝓤 (emp 𝓤) (Says-state-in 𝓤 H A at-mem run .pre (to-state-in k))
-  asks-state-in k f0 = qed W [] ∵ nothing ! $ nothing ! $ has ! a-Turn (is-answer k) f0 $ fjoin ! $ nothing ! $ join ! $ done !
+  asks-state-in : (k : ℕ) → Fine a-Answer (is-answered-in k) → ent 𝓤 (emp 𝓤) (Says-state-in 𝓤 H A at-mem run .pre (to-state-in k))
+  asks-state-in k f0 = qed W [] ∵ nothing ! $ nothing ! $ has ! a-Answer (is-answered-in k) f0 $ fjoin ! $ nothing ! $ join ! $ done !
 
   gives-state-in : (k : ℕ) → (w : Val) → ent 𝓤 (Says-state-in 𝓤 H A at-mem run .post (to-state-in k) w) (H .⇛ (guard 𝓤 ((w ≡ a-State .val (is-state-in k)) × Fine a-State (is-state-in k)) (emp 𝓤)))
-  gives-state-in k = answers 𝓤 H A W a-State (Unit {0} × Unit {0}) (λ ws. lasts state-in.ended tt ((is-answer k), tt) ws) (λ r. r ≡ (is-answer k) .state) (is-state-in k) (λ r e. e) (emp 𝓤)
+  gives-state-in k = answers 𝓤 H A W a-State (Unit {0} × Unit {0}) (λ ws. lasts state-in.ended tt ((is-answered-in k), tt) ws) (λ r. r ≡ (is-answered-in k) .state) (is-state-in k) (λ r e. e) (emp 𝓤)
+
+  abbrev is-sound-by : ℕ → Bool
+  is-sound-by k = (soundBy (is-entry-in k) (sound-at k))
+
+  abbrev to-sound-by : ℕ → Says-sound-by 𝓤 H A at-mem run .Ghost
+  to-sound-by k = ((tt, tt, tt, ((is-entry-in k), ((sound-at k), tt)), (a-Entry .val (is-entry-in k) ∷ [], (a-bool .val (sound-at k) ∷ [], tt))), tt)
+
+  asks-sound-by : (k : ℕ) → Fine a-Entry (is-entry-in k) → Fine a-bool (sound-at k) → ent 𝓤 (emp 𝓤) (Says-sound-by 𝓤 H A at-mem run .pre (to-sound-by k))
+  asks-sound-by k f0 f1 = qed W [] ∵ nothing ! $ nothing ! $ has ! a-bool (sound-at k) f1 $ fjoin ! $ has ! a-Entry (is-entry-in k) f0 $ fjoin ! $ nothing ! $ join ! $ done !
+
+  gives-sound-by : (k : ℕ) → (w : Val) → ent 𝓤 (Says-sound-by 𝓤 H A at-mem run .post (to-sound-by k) w) (H .⇛ (guard 𝓤 ((w ≡ a-bool .val (is-sound-by k)) × Fine a-bool (is-sound-by k)) (emp 𝓤)))
+  gives-sound-by k = answers 𝓤 H A W a-bool (Unit {0} × (Unit {0} × Unit {0})) (λ ws. lasts sound-by.ended tt ((is-entry-in k), ((sound-at k), tt)) ws) (λ r. r ≡ soundBy (is-entry-in k) (sound-at k)) (is-sound-by k) (λ r e. e) (emp 𝓤)
 
   abbrev is-put-together : ℕ → Served
-  is-put-together k = (puttingTogether (s-at k) (archive-at k) (log-at k) (audit-at k) (said-at k))
+  is-put-together k = (puttingTogether (s-at k) (archive-at k) (log-at k) (audit-at k) (outputs-at k))
 
   abbrev to-put-together : ℕ → Says-put-together 𝓤 H A at-mem run .Ghost
-  to-put-together k = ((tt, tt, tt, ((s-at k), ((archive-at k), ((log-at k), ((audit-at k), ((said-at k), tt))))), (a-State .val (s-at k) ∷ [], ((known-array a-ArchiveLine 15) .val (archive-at k) ∷ [], ((known-array a-LogLine 250) .val (log-at k) ∷ [], ((known-array a-AuditLine 200) .val (audit-at k) ∷ [], ((known-array a-Said 256) .val (said-at k) ∷ [], tt)))))), tt)
+  to-put-together k = ((tt, tt, tt, ((s-at k), ((archive-at k), ((log-at k), ((audit-at k), ((outputs-at k), tt))))), (a-State .val (s-at k) ∷ [], ((known-array a-ArchiveLine 15) .val (archive-at k) ∷ [], ((known-array a-LogLine 250) .val (log-at k) ∷ [], ((known-array a-AuditLine 200) .val (audit-at k) ∷ [], ((known-array a-Output 256) .val (outputs-at k) ∷ [], tt)))))), tt)
 
-  asks-put-together : (k : ℕ) → Fine a-State (s-at k) → Fine (known-array a-ArchiveLine 15) (archive-at k) → Fine (known-array a-LogLine 250) (log-at k) → Fine (known-array a-AuditLine 200) (audit-at k) → Fine (known-array a-Said 256) (said-at k) → ent 𝓤 (emp 𝓤) (Says-put-together 𝓤 H A at-mem run .pre (to-put-together k))
-  asks-put-together k f0 f1 f2 f3 f4 = qed W [] ∵ nothing ! $ nothing ! $ has ! (known-array a-Said 256) (said-at k) f4 $ fjoin ! $ has ! (known-array a-AuditLine 200) (audit-at k) f3 $ fjoin ! $ has ! (known-array a-LogLine 250) (log-at k) f2 $ fjoin ! $ has ! (known-array a-ArchiveLine 15) (archive-at k) f1 $ fjoin ! $ has ! a-State (s-at k) f0 $ fjoin ! $ nothing ! $ join ! $ done !
+  asks-put-together : (k : ℕ) → Fine a-State (s-at k) → Fine (known-array a-ArchiveLine 15) (archive-at k) → Fine (known-array a-LogLine 250) (log-at k) → Fine (known-array a-AuditLine 200) (audit-at k) → Fine (known-array a-Output 256) (outputs-at k) → ent 𝓤 (emp 𝓤) (Says-put-together 𝓤 H A at-mem run .pre (to-put-together k))
+  asks-put-together k f0 f1 f2 f3 f4 = qed W [] ∵ nothing ! $ nothing ! $ has ! (known-array a-Output 256) (outputs-at k) f4 $ fjoin ! $ has ! (known-array a-AuditLine 200) (audit-at k) f3 $ fjoin ! $ has ! (known-array a-LogLine 250) (log-at k) f2 $ fjoin ! $ has ! (known-array a-ArchiveLine 15) (archive-at k) f1 $ fjoin ! $ has ! a-State (s-at k) f0 $ fjoin ! $ nothing ! $ join ! $ done !
 
   gives-put-together : (k : ℕ) → (w : Val) → ent 𝓤 (Says-put-together 𝓤 H A at-mem run .post (to-put-together k) w) (H .⇛ (guard 𝓤 ((w ≡ a-Served .val (is-put-together k)) × Fine a-Served (is-put-together k)) (emp 𝓤)))
-  gives-put-together k = answers 𝓤 H A W a-Served (Unit {0} × (Unit {0} × (Unit {0} × (Unit {0} × (Unit {0} × Unit {0}))))) (λ ws. lasts put-together.ended tt ((s-at k), ((archive-at k), ((log-at k), ((audit-at k), ((said-at k), tt))))) ws) (λ r. r ≡ puttingTogether (s-at k) (archive-at k) (log-at k) (audit-at k) (said-at k)) (is-put-together k) (λ r e. e) (emp 𝓤)
+  gives-put-together k = answers 𝓤 H A W a-Served (Unit {0} × (Unit {0} × (Unit {0} × (Unit {0} × (Unit {0} × Unit {0}))))) (λ ws. lasts put-together.ended tt ((s-at k), ((archive-at k), ((log-at k), ((audit-at k), ((outputs-at k), tt))))) ws) (λ r. r ≡ puttingTogether (s-at k) (archive-at k) (log-at k) (audit-at k) (outputs-at k)) (is-put-together k) (λ r e. e) (emp 𝓤)
 
   exits : (k : ℕ) → k ≡ n → Fine a-Served (is-put-together k) → ent 𝓤 (⋆ 𝓤 H A []) (Post (a-Served .val (is-put-together k)))
   exits k last ok =
-      qed W [] ∵ suffices ! _ (ends-at 𝓤 H A fn.ended stayed (fn.clauses 𝓤 H A at-mem run) W ((tt, tt, tt, args, machine), tt) (a-Served .val (is-put-together k)) (is-put-together k) (tt, (tt, (tt, tt))) (tt, (tt, (tt, tt)))) $ says ! (served-after d orders count k last) $
+      qed W [] ∵ suffices ! _ (ends-at 𝓤 H A fn.ended stayed (fn.clauses 𝓤 H A at-mem run) W ((tt, tt, tt, args, machine), tt) (a-Served .val (is-put-together k)) (is-put-together k) (tt, (tt, (tt, tt))) (tt, (tt, (tt, tt)))) $ says ! (served-after d inputs count k last) $
       nothing ! $ frame ! $ nothing ! $ nothing ! $ fjoin ! $ nothing ! $ fjoin ! $ nothing ! $ fjoin ! $ has ! a-Served (is-put-together k) ok $ move ! (1 ∷ 0 ∷ []) $ done !
 
   -- the turns still to come get fewer
   abbrev Upto : Type 0
-  Upto = (k : ℕ) × ((k ≤ n) × (Fine a-State (s-at k) × (Fine (known-array a-ArchiveLine 15) (archive-at k) × (Fine (known-array a-LogLine 250) (log-at k) × (Fine (known-array a-AuditLine 200) (audit-at k) × Fine (known-array a-Said 256) (said-at k))))))
+  Upto = (k : ℕ) × ((k ≤ n) × (Fine a-State (s-at k) × (Fine a-bool (sound-at k) × (Fine (known-array a-ArchiveLine 15) (archive-at k) × (Fine (known-array a-LogLine 250) (log-at k) × (Fine (known-array a-AuditLine 200) (audit-at k) × Fine (known-array a-Output 256) (outputs-at k)))))))
 
   abbrev Nearer : Upto → Upto → Type 0
   Nearer j k = n - j .0 < n - k .0
@@ -389,7 +469,7 @@ module _ {M′ : Type 1} (𝓤 : URA M′) (H : Heap 𝓤) (A : Atoms 𝓤) (W :
   Nearer-wf : WellFounded Nearer
   Nearer-wf = InvImage·wf (λ (k : Upto). n - k .0) (Nat·lt-wfRel .wf)
 
-  module _ (𝓣 : Tables 𝓤 H) (known-in-block : Triple 𝓤 (𝓣 .C #desk·in-block) (Says-in-block 𝓤 H A at-mem run)) (known-state-of : Triple 𝓤 (𝓣 .C #desk·state-of) (Says-state-of 𝓤 H A at-mem run)) (known-archive-of : Triple 𝓤 (𝓣 .C #desk·archive-of) (Says-archive-of 𝓤 H A at-mem run)) (known-log-of : Triple 𝓤 (𝓣 .C #desk·log-of) (Says-log-of 𝓤 H A at-mem run)) (known-audit-of : Triple 𝓤 (𝓣 .C #desk·audit-of) (Says-audit-of 𝓤 H A at-mem run)) (known-nothing-said : Triple 𝓤 (𝓣 .C #desk·nothing-said) (Says-nothing-said 𝓤 H A at-mem run)) (known-fetch-order : Triple 𝓤 (𝓣 .C #desk·fetch-order) (Says-fetch-order 𝓤 H A at-mem run)) (known-command-in : Triple 𝓤 (𝓣 .C #desk·command-in) (Says-command-in 𝓤 H A at-mem run)) (known-shown : Triple 𝓤 (𝓣 .C #turns·shown) (Says-shown 𝓤 H A at-mem run)) (known-answer : Triple 𝓤 (𝓣 .C #turns·answer) (Says-answer 𝓤 H A at-mem run)) (known-said-in : Triple 𝓤 (𝓣 .C #desk·said-in) (Says-said-in 𝓤 H A at-mem run)) (known-put-said : Triple 𝓤 (𝓣 .C #desk·put-said) (Says-put-said 𝓤 H A at-mem run)) (known-state-in : Triple 𝓤 (𝓣 .C #desk·state-in) (Says-state-in 𝓤 H A at-mem run)) (known-put-together : Triple 𝓤 (𝓣 .C #desk·put-together) (Says-put-together 𝓤 H A at-mem run)) where
+  module _ (𝓣 : Tables 𝓤 H) (known-in-block : Triple 𝓤 (𝓣 .C #desk·in-block) (Says-in-block 𝓤 H A at-mem run)) (known-state-of : Triple 𝓤 (𝓣 .C #desk·state-of) (Says-state-of 𝓤 H A at-mem run)) (known-whole : Triple 𝓤 (𝓣 .C #state·whole) (Says-whole 𝓤 H A at-mem run)) (known-archive-of : Triple 𝓤 (𝓣 .C #desk·archive-of) (Says-archive-of 𝓤 H A at-mem run)) (known-log-of : Triple 𝓤 (𝓣 .C #desk·log-of) (Says-log-of 𝓤 H A at-mem run)) (known-audit-of : Triple 𝓤 (𝓣 .C #desk·audit-of) (Says-audit-of 𝓤 H A at-mem run)) (known-no-outputs : Triple 𝓤 (𝓣 .C #desk·no-outputs) (Says-no-outputs 𝓤 H A at-mem run)) (known-fetch-input : Triple 𝓤 (𝓣 .C #desk·fetch-input) (Says-fetch-input 𝓤 H A at-mem run)) (known-entry-in : Triple 𝓤 (𝓣 .C #desk·entry-in) (Says-entry-in 𝓤 H A at-mem run)) (known-command-in : Triple 𝓤 (𝓣 .C #desk·command-in) (Says-command-in 𝓤 H A at-mem run)) (known-seen : Triple 𝓤 (𝓣 .C #device·seen) (Says-seen 𝓤 H A at-mem run)) (known-answer : Triple 𝓤 (𝓣 .C #device·answer) (Says-answer 𝓤 H A at-mem run)) (known-answered-in : Triple 𝓤 (𝓣 .C #desk·answered-in) (Says-answered-in 𝓤 H A at-mem run)) (known-output-by : Triple 𝓤 (𝓣 .C #desk·output-by) (Says-output-by 𝓤 H A at-mem run)) (known-put-output : Triple 𝓤 (𝓣 .C #desk·put-output) (Says-put-output 𝓤 H A at-mem run)) (known-state-in : Triple 𝓤 (𝓣 .C #desk·state-in) (Says-state-in 𝓤 H A at-mem run)) (known-sound-by : Triple 𝓤 (𝓣 .C #desk·sound-by) (Says-sound-by 𝓤 H A at-mem run)) (known-put-together : Triple 𝓤 (𝓣 .C #desk·put-together) (Says-put-together 𝓤 H A at-mem run)) where
     abbrev fm : FmC 𝓤 H (W .laws) (𝓣 .C)
     fm = fmOf 𝓤 H (W .laws) 𝓣
 
@@ -401,13 +481,13 @@ module _ {M′ : Type 1} (𝓤 : URA M′) (H : Heap 𝓤) (A : Atoms 𝓤) (W :
     ty1 = spell M.table (tyNamed ((100 ∷ 101 ∷ 115 ∷ 107 ∷ 58 ∷ 58 ∷ 68 ∷ 101 ∷ 115 ∷ 107 ∷ []), []))
 
     abbrev ty2 : Ty
-    ty2 = spell M.table (tyArray (tyNamed ((100 ∷ 101 ∷ 115 ∷ 107 ∷ 58 ∷ 58 ∷ 79 ∷ 114 ∷ 100 ∷ 101 ∷ 114 ∷ []), [])) 256)
+    ty2 = spell M.table (tyArray (tyNamed ((100 ∷ 101 ∷ 115 ∷ 107 ∷ 58 ∷ 58 ∷ 73 ∷ 110 ∷ 112 ∷ 117 ∷ 116 ∷ []), [])) 256)
 
     abbrev ty3 : Ty
     ty3 = spell M.table (tyInt w64)
 
     abbrev ty4 : Ty
-    ty4 = spell M.table (tyArray (tyNamed ((100 ∷ 101 ∷ 115 ∷ 107 ∷ 58 ∷ 58 ∷ 79 ∷ 114 ∷ 100 ∷ 101 ∷ 114 ∷ []), [])) 256)
+    ty4 = spell M.table (tyArray (tyNamed ((100 ∷ 101 ∷ 115 ∷ 107 ∷ 58 ∷ 58 ∷ 73 ∷ 110 ∷ 112 ∷ 117 ∷ 116 ∷ []), [])) 256)
 
     abbrev ty5 : Ty
     ty5 = spell M.table (tyInt w64)
@@ -416,280 +496,297 @@ module _ {M′ : Type 1} (𝓤 : URA M′) (H : Heap 𝓤) (A : Atoms 𝓤) (W :
     ty6 = spell M.table (tyNamed ((115 ∷ 116 ∷ 97 ∷ 116 ∷ 101 ∷ 58 ∷ 58 ∷ 83 ∷ 116 ∷ 97 ∷ 116 ∷ 101 ∷ []), []))
 
     abbrev ty7 : Ty
-    ty7 = spell M.table (tyArray (tyNamed ((98 ∷ 111 ∷ 111 ∷ 107 ∷ 115 ∷ 58 ∷ 58 ∷ 65 ∷ 114 ∷ 99 ∷ 104 ∷ 105 ∷ 118 ∷ 101 ∷ 76 ∷ 105 ∷ 110 ∷ 101 ∷ []), [])) 15)
+    ty7 = spell M.table tyBool
 
     abbrev ty8 : Ty
-    ty8 = spell M.table (tyArray (tyNamed ((98 ∷ 111 ∷ 111 ∷ 107 ∷ 115 ∷ 58 ∷ 58 ∷ 76 ∷ 111 ∷ 103 ∷ 76 ∷ 105 ∷ 110 ∷ 101 ∷ []), [])) 250)
+    ty8 = spell M.table (tyArray (tyNamed ((98 ∷ 111 ∷ 111 ∷ 107 ∷ 115 ∷ 58 ∷ 58 ∷ 65 ∷ 114 ∷ 99 ∷ 104 ∷ 105 ∷ 118 ∷ 101 ∷ 76 ∷ 105 ∷ 110 ∷ 101 ∷ []), [])) 15)
 
     abbrev ty9 : Ty
-    ty9 = spell M.table (tyArray (tyNamed ((98 ∷ 111 ∷ 111 ∷ 107 ∷ 115 ∷ 58 ∷ 58 ∷ 65 ∷ 117 ∷ 100 ∷ 105 ∷ 116 ∷ 76 ∷ 105 ∷ 110 ∷ 101 ∷ []), [])) 200)
+    ty9 = spell M.table (tyArray (tyNamed ((98 ∷ 111 ∷ 111 ∷ 107 ∷ 115 ∷ 58 ∷ 58 ∷ 76 ∷ 111 ∷ 103 ∷ 76 ∷ 105 ∷ 110 ∷ 101 ∷ []), [])) 250)
 
     abbrev ty10 : Ty
-    ty10 = spell M.table (tyArray (tyNamed ((100 ∷ 101 ∷ 115 ∷ 107 ∷ 58 ∷ 58 ∷ 83 ∷ 97 ∷ 105 ∷ 100 ∷ []), [])) 256)
+    ty10 = spell M.table (tyArray (tyNamed ((98 ∷ 111 ∷ 111 ∷ 107 ∷ 115 ∷ 58 ∷ 58 ∷ 65 ∷ 117 ∷ 100 ∷ 105 ∷ 116 ∷ 76 ∷ 105 ∷ 110 ∷ 101 ∷ []), [])) 200)
 
     abbrev ty11 : Ty
-    ty11 = spell M.table (tyInt w64)
+    ty11 = spell M.table (tyArray (tyNamed ((100 ∷ 101 ∷ 115 ∷ 107 ∷ 58 ∷ 58 ∷ 79 ∷ 117 ∷ 116 ∷ 112 ∷ 117 ∷ 116 ∷ []), [])) 256)
 
     abbrev ty12 : Ty
-    ty12 = spell M.table (tyNamed ((100 ∷ 101 ∷ 115 ∷ 107 ∷ 58 ∷ 58 ∷ 79 ∷ 114 ∷ 100 ∷ 101 ∷ 114 ∷ []), []))
+    ty12 = spell M.table (tyInt w64)
 
     abbrev ty13 : Ty
-    ty13 = spell M.table (tyNamed ((116 ∷ 101 ∷ 120 ∷ 116 ∷ 58 ∷ 58 ∷ 99 ∷ 111 ∷ 109 ∷ 109 ∷ 97 ∷ 110 ∷ 100 ∷ 115 ∷ 58 ∷ 58 ∷ 67 ∷ 111 ∷ 109 ∷ 109 ∷ 97 ∷ 110 ∷ 100 ∷ []), []))
+    ty13 = spell M.table (tyNamed ((100 ∷ 101 ∷ 115 ∷ 107 ∷ 58 ∷ 58 ∷ 73 ∷ 110 ∷ 112 ∷ 117 ∷ 116 ∷ []), []))
 
     abbrev ty14 : Ty
-    ty14 = spell M.table (tyNamed ((116 ∷ 101 ∷ 120 ∷ 116 ∷ 58 ∷ 58 ∷ 114 ∷ 101 ∷ 112 ∷ 108 ∷ 105 ∷ 101 ∷ 115 ∷ 58 ∷ 58 ∷ 82 ∷ 101 ∷ 112 ∷ 108 ∷ 121 ∷ []), []))
+    ty14 = spell M.table (tyNamed ((99 ∷ 111 ∷ 109 ∷ 109 ∷ 97 ∷ 110 ∷ 100 ∷ 115 ∷ 58 ∷ 58 ∷ 69 ∷ 110 ∷ 116 ∷ 114 ∷ 121 ∷ []), []))
 
     abbrev ty15 : Ty
-    ty15 = spell M.table (tyNamed ((116 ∷ 117 ∷ 114 ∷ 110 ∷ 115 ∷ 58 ∷ 58 ∷ 84 ∷ 117 ∷ 114 ∷ 110 ∷ []), []))
+    ty15 = spell M.table (tyNamed ((99 ∷ 111 ∷ 109 ∷ 109 ∷ 97 ∷ 110 ∷ 100 ∷ 115 ∷ 58 ∷ 58 ∷ 67 ∷ 111 ∷ 109 ∷ 109 ∷ 97 ∷ 110 ∷ 100 ∷ []), []))
 
     abbrev ty16 : Ty
-    ty16 = spell M.table (tyNamed ((100 ∷ 101 ∷ 115 ∷ 107 ∷ 58 ∷ 58 ∷ 83 ∷ 97 ∷ 105 ∷ 100 ∷ []), []))
+    ty16 = spell M.table (tyNamed ((99 ∷ 111 ∷ 109 ∷ 109 ∷ 97 ∷ 110 ∷ 100 ∷ 115 ∷ 58 ∷ 58 ∷ 82 ∷ 101 ∷ 112 ∷ 108 ∷ 121 ∷ []), []))
 
     abbrev ty17 : Ty
-    ty17 = spell M.table (tyArray (tyNamed ((98 ∷ 111 ∷ 111 ∷ 107 ∷ 115 ∷ 58 ∷ 58 ∷ 65 ∷ 114 ∷ 99 ∷ 104 ∷ 105 ∷ 118 ∷ 101 ∷ 76 ∷ 105 ∷ 110 ∷ 101 ∷ []), [])) 15)
+    ty17 = spell M.table (tyNamed ((99 ∷ 111 ∷ 109 ∷ 109 ∷ 97 ∷ 110 ∷ 100 ∷ 115 ∷ 58 ∷ 58 ∷ 65 ∷ 110 ∷ 115 ∷ 119 ∷ 101 ∷ 114 ∷ []), []))
 
     abbrev ty18 : Ty
-    ty18 = spell M.table (tyArray (tyNamed ((98 ∷ 111 ∷ 111 ∷ 107 ∷ 115 ∷ 58 ∷ 58 ∷ 76 ∷ 111 ∷ 103 ∷ 76 ∷ 105 ∷ 110 ∷ 101 ∷ []), [])) 250)
+    ty18 = spell M.table (tyNamed ((99 ∷ 111 ∷ 109 ∷ 109 ∷ 97 ∷ 110 ∷ 100 ∷ 115 ∷ 58 ∷ 58 ∷ 65 ∷ 110 ∷ 115 ∷ 119 ∷ 101 ∷ 114 ∷ []), []))
 
     abbrev ty19 : Ty
-    ty19 = spell M.table (tyArray (tyNamed ((98 ∷ 111 ∷ 111 ∷ 107 ∷ 115 ∷ 58 ∷ 58 ∷ 65 ∷ 117 ∷ 100 ∷ 105 ∷ 116 ∷ 76 ∷ 105 ∷ 110 ∷ 101 ∷ []), [])) 200)
+    ty19 = spell M.table (tyNamed ((100 ∷ 101 ∷ 115 ∷ 107 ∷ 58 ∷ 58 ∷ 79 ∷ 117 ∷ 116 ∷ 112 ∷ 117 ∷ 116 ∷ []), []))
 
     abbrev ty20 : Ty
-    ty20 = spell M.table (tyArray (tyNamed ((100 ∷ 101 ∷ 115 ∷ 107 ∷ 58 ∷ 58 ∷ 83 ∷ 97 ∷ 105 ∷ 100 ∷ []), [])) 256)
+    ty20 = spell M.table (tyArray (tyNamed ((98 ∷ 111 ∷ 111 ∷ 107 ∷ 115 ∷ 58 ∷ 58 ∷ 65 ∷ 114 ∷ 99 ∷ 104 ∷ 105 ∷ 118 ∷ 101 ∷ 76 ∷ 105 ∷ 110 ∷ 101 ∷ []), [])) 15)
 
     abbrev ty21 : Ty
-    ty21 = spell M.table tyBool
+    ty21 = spell M.table (tyArray (tyNamed ((98 ∷ 111 ∷ 111 ∷ 107 ∷ 115 ∷ 58 ∷ 58 ∷ 76 ∷ 111 ∷ 103 ∷ 76 ∷ 105 ∷ 110 ∷ 101 ∷ []), [])) 250)
 
     abbrev ty22 : Ty
-    ty22 = spell M.table (tyRef erased imm (tyArray (tyNamed ((100 ∷ 101 ∷ 115 ∷ 107 ∷ 58 ∷ 58 ∷ 79 ∷ 114 ∷ 100 ∷ 101 ∷ 114 ∷ []), [])) 256))
+    ty22 = spell M.table (tyArray (tyNamed ((98 ∷ 111 ∷ 111 ∷ 107 ∷ 115 ∷ 58 ∷ 58 ∷ 65 ∷ 117 ∷ 100 ∷ 105 ∷ 116 ∷ 76 ∷ 105 ∷ 110 ∷ 101 ∷ []), [])) 200)
 
     abbrev ty23 : Ty
-    ty23 = spell M.table (tyStruct (38 ∷ 91 ∷ 93 ∷ []) (tcons (tyRef erased imm (tyNamed ((100 ∷ 101 ∷ 115 ∷ 107 ∷ 58 ∷ 58 ∷ 79 ∷ 114 ∷ 100 ∷ 101 ∷ 114 ∷ []), []))) (tcons (tyInt w64) tnil)))
+    ty23 = spell M.table (tyArray (tyNamed ((100 ∷ 101 ∷ 115 ∷ 107 ∷ 58 ∷ 58 ∷ 79 ∷ 117 ∷ 116 ∷ 112 ∷ 117 ∷ 116 ∷ []), [])) 256)
 
     abbrev ty24 : Ty
-    ty24 = spell M.table (tyRef erased imm (tyArray (tyNamed ((98 ∷ 111 ∷ 111 ∷ 107 ∷ 115 ∷ 58 ∷ 58 ∷ 65 ∷ 114 ∷ 99 ∷ 104 ∷ 105 ∷ 118 ∷ 101 ∷ 76 ∷ 105 ∷ 110 ∷ 101 ∷ []), [])) 15))
+    ty24 = spell M.table tyBool
 
     abbrev ty25 : Ty
-    ty25 = spell M.table (tyStruct (38 ∷ 91 ∷ 93 ∷ []) (tcons (tyRef erased imm (tyNamed ((98 ∷ 111 ∷ 111 ∷ 107 ∷ 115 ∷ 58 ∷ 58 ∷ 65 ∷ 114 ∷ 99 ∷ 104 ∷ 105 ∷ 118 ∷ 101 ∷ 76 ∷ 105 ∷ 110 ∷ 101 ∷ []), []))) (tcons (tyInt w64) tnil)))
+    ty25 = spell M.table (tyRef erased imm (tyArray (tyNamed ((100 ∷ 101 ∷ 115 ∷ 107 ∷ 58 ∷ 58 ∷ 73 ∷ 110 ∷ 112 ∷ 117 ∷ 116 ∷ []), [])) 256))
 
     abbrev ty26 : Ty
-    ty26 = spell M.table (tyRef erased imm (tyArray (tyNamed ((98 ∷ 111 ∷ 111 ∷ 107 ∷ 115 ∷ 58 ∷ 58 ∷ 76 ∷ 111 ∷ 103 ∷ 76 ∷ 105 ∷ 110 ∷ 101 ∷ []), [])) 250))
+    ty26 = spell M.table (tyStruct (38 ∷ 91 ∷ 93 ∷ []) (tcons (tyRef erased imm (tyNamed ((100 ∷ 101 ∷ 115 ∷ 107 ∷ 58 ∷ 58 ∷ 73 ∷ 110 ∷ 112 ∷ 117 ∷ 116 ∷ []), []))) (tcons (tyInt w64) tnil)))
 
     abbrev ty27 : Ty
-    ty27 = spell M.table (tyStruct (38 ∷ 91 ∷ 93 ∷ []) (tcons (tyRef erased imm (tyNamed ((98 ∷ 111 ∷ 111 ∷ 107 ∷ 115 ∷ 58 ∷ 58 ∷ 76 ∷ 111 ∷ 103 ∷ 76 ∷ 105 ∷ 110 ∷ 101 ∷ []), []))) (tcons (tyInt w64) tnil)))
+    ty27 = spell M.table (tyRef erased imm (tyArray (tyNamed ((98 ∷ 111 ∷ 111 ∷ 107 ∷ 115 ∷ 58 ∷ 58 ∷ 65 ∷ 114 ∷ 99 ∷ 104 ∷ 105 ∷ 118 ∷ 101 ∷ 76 ∷ 105 ∷ 110 ∷ 101 ∷ []), [])) 15))
 
     abbrev ty28 : Ty
-    ty28 = spell M.table (tyRef erased imm (tyArray (tyNamed ((98 ∷ 111 ∷ 111 ∷ 107 ∷ 115 ∷ 58 ∷ 58 ∷ 65 ∷ 117 ∷ 100 ∷ 105 ∷ 116 ∷ 76 ∷ 105 ∷ 110 ∷ 101 ∷ []), [])) 200))
+    ty28 = spell M.table (tyStruct (38 ∷ 91 ∷ 93 ∷ []) (tcons (tyRef erased imm (tyNamed ((98 ∷ 111 ∷ 111 ∷ 107 ∷ 115 ∷ 58 ∷ 58 ∷ 65 ∷ 114 ∷ 99 ∷ 104 ∷ 105 ∷ 118 ∷ 101 ∷ 76 ∷ 105 ∷ 110 ∷ 101 ∷ []), []))) (tcons (tyInt w64) tnil)))
 
     abbrev ty29 : Ty
-    ty29 = spell M.table (tyStruct (38 ∷ 91 ∷ 93 ∷ []) (tcons (tyRef erased imm (tyNamed ((98 ∷ 111 ∷ 111 ∷ 107 ∷ 115 ∷ 58 ∷ 58 ∷ 65 ∷ 117 ∷ 100 ∷ 105 ∷ 116 ∷ 76 ∷ 105 ∷ 110 ∷ 101 ∷ []), []))) (tcons (tyInt w64) tnil)))
+    ty29 = spell M.table (tyRef erased imm (tyArray (tyNamed ((98 ∷ 111 ∷ 111 ∷ 107 ∷ 115 ∷ 58 ∷ 58 ∷ 76 ∷ 111 ∷ 103 ∷ 76 ∷ 105 ∷ 110 ∷ 101 ∷ []), [])) 250))
 
     abbrev ty30 : Ty
-    ty30 = spell M.table (tyRef erased mut (tyArray (tyNamed ((98 ∷ 111 ∷ 111 ∷ 107 ∷ 115 ∷ 58 ∷ 58 ∷ 65 ∷ 114 ∷ 99 ∷ 104 ∷ 105 ∷ 118 ∷ 101 ∷ 76 ∷ 105 ∷ 110 ∷ 101 ∷ []), [])) 15))
+    ty30 = spell M.table (tyStruct (38 ∷ 91 ∷ 93 ∷ []) (tcons (tyRef erased imm (tyNamed ((98 ∷ 111 ∷ 111 ∷ 107 ∷ 115 ∷ 58 ∷ 58 ∷ 76 ∷ 111 ∷ 103 ∷ 76 ∷ 105 ∷ 110 ∷ 101 ∷ []), []))) (tcons (tyInt w64) tnil)))
 
     abbrev ty31 : Ty
-    ty31 = spell M.table (tyStruct (38 ∷ 91 ∷ 93 ∷ []) (tcons (tyRef erased mut (tyNamed ((98 ∷ 111 ∷ 111 ∷ 107 ∷ 115 ∷ 58 ∷ 58 ∷ 65 ∷ 114 ∷ 99 ∷ 104 ∷ 105 ∷ 118 ∷ 101 ∷ 76 ∷ 105 ∷ 110 ∷ 101 ∷ []), []))) (tcons (tyInt w64) tnil)))
+    ty31 = spell M.table (tyRef erased imm (tyArray (tyNamed ((98 ∷ 111 ∷ 111 ∷ 107 ∷ 115 ∷ 58 ∷ 58 ∷ 65 ∷ 117 ∷ 100 ∷ 105 ∷ 116 ∷ 76 ∷ 105 ∷ 110 ∷ 101 ∷ []), [])) 200))
 
     abbrev ty32 : Ty
-    ty32 = spell M.table (tyRef erased mut (tyArray (tyNamed ((98 ∷ 111 ∷ 111 ∷ 107 ∷ 115 ∷ 58 ∷ 58 ∷ 76 ∷ 111 ∷ 103 ∷ 76 ∷ 105 ∷ 110 ∷ 101 ∷ []), [])) 250))
+    ty32 = spell M.table (tyStruct (38 ∷ 91 ∷ 93 ∷ []) (tcons (tyRef erased imm (tyNamed ((98 ∷ 111 ∷ 111 ∷ 107 ∷ 115 ∷ 58 ∷ 58 ∷ 65 ∷ 117 ∷ 100 ∷ 105 ∷ 116 ∷ 76 ∷ 105 ∷ 110 ∷ 101 ∷ []), []))) (tcons (tyInt w64) tnil)))
 
     abbrev ty33 : Ty
-    ty33 = spell M.table (tyStruct (38 ∷ 91 ∷ 93 ∷ []) (tcons (tyRef erased mut (tyNamed ((98 ∷ 111 ∷ 111 ∷ 107 ∷ 115 ∷ 58 ∷ 58 ∷ 76 ∷ 111 ∷ 103 ∷ 76 ∷ 105 ∷ 110 ∷ 101 ∷ []), []))) (tcons (tyInt w64) tnil)))
+    ty33 = spell M.table (tyRef erased mut (tyArray (tyNamed ((98 ∷ 111 ∷ 111 ∷ 107 ∷ 115 ∷ 58 ∷ 58 ∷ 65 ∷ 114 ∷ 99 ∷ 104 ∷ 105 ∷ 118 ∷ 101 ∷ 76 ∷ 105 ∷ 110 ∷ 101 ∷ []), [])) 15))
 
     abbrev ty34 : Ty
-    ty34 = spell M.table (tyRef erased mut (tyArray (tyNamed ((98 ∷ 111 ∷ 111 ∷ 107 ∷ 115 ∷ 58 ∷ 58 ∷ 65 ∷ 117 ∷ 100 ∷ 105 ∷ 116 ∷ 76 ∷ 105 ∷ 110 ∷ 101 ∷ []), [])) 200))
+    ty34 = spell M.table (tyStruct (38 ∷ 91 ∷ 93 ∷ []) (tcons (tyRef erased mut (tyNamed ((98 ∷ 111 ∷ 111 ∷ 107 ∷ 115 ∷ 58 ∷ 58 ∷ 65 ∷ 114 ∷ 99 ∷ 104 ∷ 105 ∷ 118 ∷ 101 ∷ 76 ∷ 105 ∷ 110 ∷ 101 ∷ []), []))) (tcons (tyInt w64) tnil)))
 
     abbrev ty35 : Ty
-    ty35 = spell M.table (tyStruct (38 ∷ 91 ∷ 93 ∷ []) (tcons (tyRef erased mut (tyNamed ((98 ∷ 111 ∷ 111 ∷ 107 ∷ 115 ∷ 58 ∷ 58 ∷ 65 ∷ 117 ∷ 100 ∷ 105 ∷ 116 ∷ 76 ∷ 105 ∷ 110 ∷ 101 ∷ []), []))) (tcons (tyInt w64) tnil)))
+    ty35 = spell M.table (tyRef erased mut (tyArray (tyNamed ((98 ∷ 111 ∷ 111 ∷ 107 ∷ 115 ∷ 58 ∷ 58 ∷ 76 ∷ 111 ∷ 103 ∷ 76 ∷ 105 ∷ 110 ∷ 101 ∷ []), [])) 250))
 
     abbrev ty36 : Ty
-    ty36 = spell M.table tyUnit
+    ty36 = spell M.table (tyStruct (38 ∷ 91 ∷ 93 ∷ []) (tcons (tyRef erased mut (tyNamed ((98 ∷ 111 ∷ 111 ∷ 107 ∷ 115 ∷ 58 ∷ 58 ∷ 76 ∷ 111 ∷ 103 ∷ 76 ∷ 105 ∷ 110 ∷ 101 ∷ []), []))) (tcons (tyInt w64) tnil)))
 
     abbrev ty37 : Ty
-    ty37 = spell M.table (tyRef erased mut (tyArray (tyNamed ((100 ∷ 101 ∷ 115 ∷ 107 ∷ 58 ∷ 58 ∷ 83 ∷ 97 ∷ 105 ∷ 100 ∷ []), [])) 256))
+    ty37 = spell M.table (tyRef erased mut (tyArray (tyNamed ((98 ∷ 111 ∷ 111 ∷ 107 ∷ 115 ∷ 58 ∷ 58 ∷ 65 ∷ 117 ∷ 100 ∷ 105 ∷ 116 ∷ 76 ∷ 105 ∷ 110 ∷ 101 ∷ []), [])) 200))
 
     abbrev ty38 : Ty
-    ty38 = spell M.table (tyStruct (38 ∷ 91 ∷ 93 ∷ []) (tcons (tyRef erased mut (tyNamed ((100 ∷ 101 ∷ 115 ∷ 107 ∷ 58 ∷ 58 ∷ 83 ∷ 97 ∷ 105 ∷ 100 ∷ []), []))) (tcons (tyInt w64) tnil)))
+    ty38 = spell M.table (tyStruct (38 ∷ 91 ∷ 93 ∷ []) (tcons (tyRef erased mut (tyNamed ((98 ∷ 111 ∷ 111 ∷ 107 ∷ 115 ∷ 58 ∷ 58 ∷ 65 ∷ 117 ∷ 100 ∷ 105 ∷ 116 ∷ 76 ∷ 105 ∷ 110 ∷ 101 ∷ []), []))) (tcons (tyInt w64) tnil)))
 
-    module _ (l0 l1 l2 l3 l4 l5 l6 l7 l8 l9 l10 l11 l12 l13 l14 l15 l16 l17 l18 l19 l20 l21 l22 l23 l24 l25 l26 l27 l28 l29 l30 l31 l32 l33 l34 l35 l36 l37 l38 : ℕ) where
+    abbrev ty39 : Ty
+    ty39 = spell M.table tyUnit
+
+    abbrev ty40 : Ty
+    ty40 = spell M.table (tyRef erased mut (tyArray (tyNamed ((100 ∷ 101 ∷ 115 ∷ 107 ∷ 58 ∷ 58 ∷ 79 ∷ 117 ∷ 116 ∷ 112 ∷ 117 ∷ 116 ∷ []), [])) 256))
+
+    abbrev ty41 : Ty
+    ty41 = spell M.table (tyStruct (38 ∷ 91 ∷ 93 ∷ []) (tcons (tyRef erased mut (tyNamed ((100 ∷ 101 ∷ 115 ∷ 107 ∷ 58 ∷ 58 ∷ 79 ∷ 117 ∷ 116 ∷ 112 ∷ 117 ∷ 116 ∷ []), []))) (tcons (tyInt w64) tnil)))
+
+    module _ (l0 l1 l2 l3 l4 l5 l6 l7 l8 l9 l10 l11 l12 l13 l14 l15 l16 l17 l18 l19 l20 l21 l22 l23 l24 l25 l26 l27 l28 l29 l30 l31 l32 l33 l34 l35 l36 l37 l38 l39 l40 l41 : ℕ) where
       abbrev E : Env 𝓤 H
-      E = (ty0, l0) ∷ (ty1, l1) ∷ (ty2, l2) ∷ (ty3, l3) ∷ (ty4, l4) ∷ (ty5, l5) ∷ (ty6, l6) ∷ (ty7, l7) ∷ (ty8, l8) ∷ (ty9, l9) ∷ (ty10, l10) ∷ (ty11, l11) ∷ (ty12, l12) ∷ (ty13, l13) ∷ (ty14, l14) ∷ (ty15, l15) ∷ (ty16, l16) ∷ (ty17, l17) ∷ (ty18, l18) ∷ (ty19, l19) ∷ (ty20, l20) ∷ (ty21, l21) ∷ (ty22, l22) ∷ (ty23, l23) ∷ (ty24, l24) ∷ (ty25, l25) ∷ (ty26, l26) ∷ (ty27, l27) ∷ (ty28, l28) ∷ (ty29, l29) ∷ (ty30, l30) ∷ (ty31, l31) ∷ (ty32, l32) ∷ (ty33, l33) ∷ (ty34, l34) ∷ (ty35, l35) ∷ (ty36, l36) ∷ (ty37, l37) ∷ (ty38, l38) ∷ []
+      E = (ty0, l0) ∷ (ty1, l1) ∷ (ty2, l2) ∷ (ty3, l3) ∷ (ty4, l4) ∷ (ty5, l5) ∷ (ty6, l6) ∷ (ty7, l7) ∷ (ty8, l8) ∷ (ty9, l9) ∷ (ty10, l10) ∷ (ty11, l11) ∷ (ty12, l12) ∷ (ty13, l13) ∷ (ty14, l14) ∷ (ty15, l15) ∷ (ty16, l16) ∷ (ty17, l17) ∷ (ty18, l18) ∷ (ty19, l19) ∷ (ty20, l20) ∷ (ty21, l21) ∷ (ty22, l22) ∷ (ty23, l23) ∷ (ty24, l24) ∷ (ty25, l25) ∷ (ty26, l26) ∷ (ty27, l27) ∷ (ty28, l28) ∷ (ty29, l29) ∷ (ty30, l30) ∷ (ty31, l31) ∷ (ty32, l32) ∷ (ty33, l33) ∷ (ty34, l34) ∷ (ty35, l35) ∷ (ty36, l36) ∷ (ty37, l37) ∷ (ty38, l38) ∷ (ty39, l39) ∷ (ty40, l40) ∷ (ty41, l41) ∷ []
 
       -- what is held after k turns
       abbrev Cells : ℕ → List (Item 𝓤)
-      Cells k = (‵ (froom ty38 l38 0) ∷ ‵ (fdies ty38 l38) ∷ ‵ (froom ty37 l37 0) ∷ ‵ (fdies ty37 l37) ∷ ‵ (froom ty36 l36 0) ∷ ‵ (fdies ty36 l36) ∷ ‵ (froom ty35 l35 0) ∷ ‵ (fdies ty35 l35) ∷ ‵ (froom ty34 l34 0) ∷ ‵ (fdies ty34 l34) ∷ ‵ (froom ty33 l33 0) ∷ ‵ (fdies ty33 l33) ∷ ‵ (froom ty32 l32 0) ∷ ‵ (fdies ty32 l32) ∷ ‵ (froom ty31 l31 0) ∷ ‵ (fdies ty31 l31) ∷ ‵ (froom ty30 l30 0) ∷ ‵ (fdies ty30 l30) ∷ ‵ (froom ty29 l29 0) ∷ ‵ (fdies ty29 l29) ∷ ‵ (froom ty28 l28 0) ∷ ‵ (fdies ty28 l28) ∷ ‵ (froom ty27 l27 0) ∷ ‵ (fdies ty27 l27) ∷ ‵ (froom ty26 l26 0) ∷ ‵ (fdies ty26 l26) ∷ ‵ (froom ty25 l25 0) ∷ ‵ (fdies ty25 l25) ∷ ‵ (froom ty24 l24 0) ∷ ‵ (fdies ty24 l24) ∷ ‵ (froom ty23 l23 0) ∷ ‵ (fdies ty23 l23) ∷ ‵ (froom ty22 l22 0) ∷ ‵ (fdies ty22 l22) ∷ ‵ (froom ty21 l21 0) ∷ ‵ (fdies ty21 l21) ∷ ‵ (froom ty20 l20 0) ∷ ‵ (fdies ty20 l20) ∷ ‵ (froom ty19 l19 0) ∷ ‵ (fdies ty19 l19) ∷ ‵ (froom ty18 l18 0) ∷ ‵ (fdies ty18 l18) ∷ ‵ (froom ty17 l17 0) ∷ ‵ (fdies ty17 l17) ∷ ‵ (froom ty16 l16 0) ∷ ‵ (fdies ty16 l16) ∷ ‵ (froom ty15 l15 0) ∷ ‵ (fdies ty15 l15) ∷ ‵ (froom ty14 l14 0) ∷ ‵ (fdies ty14 l14) ∷ ‵ (froom ty13 l13 0) ∷ ‵ (fdies ty13 l13) ∷ ‵ (froom ty12 l12 0) ∷ ‵ (fdies ty12 l12) ∷ ‵ (fat fullShare ty11 l11 0 (a-usize .val k)) ∷ ‵ (fdies ty11 l11) ∷ ‵ (fat fullShare ty10 l10 0 ((known-array a-Said 256) .val (said-at k))) ∷ ‵ (fdies ty10 l10) ∷ ‵ (fat fullShare ty9 l9 0 ((known-array a-AuditLine 200) .val (audit-at k))) ∷ ‵ (fdies ty9 l9) ∷ ‵ (fat fullShare ty8 l8 0 ((known-array a-LogLine 250) .val (log-at k))) ∷ ‵ (fdies ty8 l8) ∷ ‵ (fat fullShare ty7 l7 0 ((known-array a-ArchiveLine 15) .val (archive-at k))) ∷ ‵ (fdies ty7 l7) ∷ ‵ (fat fullShare ty6 l6 0 (a-State .val (s-at k))) ∷ ‵ (fdies ty6 l6) ∷ ‵ (fat fullShare ty5 l5 0 (a-usize .val n)) ∷ ‵ (fdies ty5 l5) ∷ ‵ (fat fullShare ty4 l4 0 ((known-array a-Order 256) .val orders)) ∷ ‵ (fdies ty4 l4) ∷ ‵ (froom ty3 l3 0) ∷ ‵ (fdies ty3 l3) ∷ ‵ (froom ty2 l2 0) ∷ ‵ (fdies ty2 l2) ∷ ‵ (froom ty1 l1 0) ∷ ‵ (fdies ty1 l1) ∷ ‵ (froom ty0 l0 0) ∷ ‵ (fdies ty0 l0) ∷ [])
+      Cells k = (‵ (froom ty41 l41 0) ∷ ‵ (fdies ty41 l41) ∷ ‵ (froom ty40 l40 0) ∷ ‵ (fdies ty40 l40) ∷ ‵ (froom ty39 l39 0) ∷ ‵ (fdies ty39 l39) ∷ ‵ (froom ty38 l38 0) ∷ ‵ (fdies ty38 l38) ∷ ‵ (froom ty37 l37 0) ∷ ‵ (fdies ty37 l37) ∷ ‵ (froom ty36 l36 0) ∷ ‵ (fdies ty36 l36) ∷ ‵ (froom ty35 l35 0) ∷ ‵ (fdies ty35 l35) ∷ ‵ (froom ty34 l34 0) ∷ ‵ (fdies ty34 l34) ∷ ‵ (froom ty33 l33 0) ∷ ‵ (fdies ty33 l33) ∷ ‵ (froom ty32 l32 0) ∷ ‵ (fdies ty32 l32) ∷ ‵ (froom ty31 l31 0) ∷ ‵ (fdies ty31 l31) ∷ ‵ (froom ty30 l30 0) ∷ ‵ (fdies ty30 l30) ∷ ‵ (froom ty29 l29 0) ∷ ‵ (fdies ty29 l29) ∷ ‵ (froom ty28 l28 0) ∷ ‵ (fdies ty28 l28) ∷ ‵ (froom ty27 l27 0) ∷ ‵ (fdies ty27 l27) ∷ ‵ (froom ty26 l26 0) ∷ ‵ (fdies ty26 l26) ∷ ‵ (froom ty25 l25 0) ∷ ‵ (fdies ty25 l25) ∷ ‵ (froom ty24 l24 0) ∷ ‵ (fdies ty24 l24) ∷ ‵ (froom ty23 l23 0) ∷ ‵ (fdies ty23 l23) ∷ ‵ (froom ty22 l22 0) ∷ ‵ (fdies ty22 l22) ∷ ‵ (froom ty21 l21 0) ∷ ‵ (fdies ty21 l21) ∷ ‵ (froom ty20 l20 0) ∷ ‵ (fdies ty20 l20) ∷ ‵ (froom ty19 l19 0) ∷ ‵ (fdies ty19 l19) ∷ ‵ (froom ty18 l18 0) ∷ ‵ (fdies ty18 l18) ∷ ‵ (froom ty17 l17 0) ∷ ‵ (fdies ty17 l17) ∷ ‵ (froom ty16 l16 0) ∷ ‵ (fdies ty16 l16) ∷ ‵ (froom ty15 l15 0) ∷ ‵ (fdies ty15 l15) ∷ ‵ (froom ty14 l14 0) ∷ ‵ (fdies ty14 l14) ∷ ‵ (froom ty13 l13 0) ∷ ‵ (fdies ty13 l13) ∷ ‵ (fat fullShare ty12 l12 0 (a-usize .val k)) ∷ ‵ (fdies ty12 l12) ∷ ‵ (fat fullShare ty11 l11 0 ((known-array a-Output 256) .val (outputs-at k))) ∷ ‵ (fdies ty11 l11) ∷ ‵ (fat fullShare ty10 l10 0 ((known-array a-AuditLine 200) .val (audit-at k))) ∷ ‵ (fdies ty10 l10) ∷ ‵ (fat fullShare ty9 l9 0 ((known-array a-LogLine 250) .val (log-at k))) ∷ ‵ (fdies ty9 l9) ∷ ‵ (fat fullShare ty8 l8 0 ((known-array a-ArchiveLine 15) .val (archive-at k))) ∷ ‵ (fdies ty8 l8) ∷ ‵ (fat fullShare ty7 l7 0 (a-bool .val (sound-at k))) ∷ ‵ (fdies ty7 l7) ∷ ‵ (fat fullShare ty6 l6 0 (a-State .val (s-at k))) ∷ ‵ (fdies ty6 l6) ∷ ‵ (fat fullShare ty5 l5 0 (a-usize .val n)) ∷ ‵ (fdies ty5 l5) ∷ ‵ (fat fullShare ty4 l4 0 ((known-array a-Input 256) .val inputs)) ∷ ‵ (fdies ty4 l4) ∷ ‵ (froom ty3 l3 0) ∷ ‵ (fdies ty3 l3) ∷ ‵ (froom ty2 l2 0) ∷ ‵ (fdies ty2 l2) ∷ ‵ (froom ty1 l1 0) ∷ ‵ (fdies ty1 l1) ∷ ‵ (froom ty0 l0 0) ∷ ‵ (fdies ty0 l0) ∷ [])
 
       abbrev At : Upto → List (Item 𝓤)
       At i = Cells (i .0)
 
       -- a turn ends nearer to n, or the loop is left and the rest runs
       abbrev Turned : Upto → Out → SProp 𝓤
-      Turned i = afterTurn 𝓤 H (Below 𝓤 H A Nearer At i) (afterBlock 𝓤 H (afterSeq 𝓤 H (Wp 𝓤 H (𝓣 .C) (𝓣 .Λ) E M.t-14 (atReturn 𝓤 H E Post)) (atReturn 𝓤 H E Post)))
+      Turned i = afterTurn 𝓤 H (Below 𝓤 H A Nearer At i) (afterBlock 𝓤 H (afterSeq 𝓤 H (Wp 𝓤 H (𝓣 .C) (𝓣 .Λ) E M.t-15 (atReturn 𝓤 H E Post)) (atReturn 𝓤 H E Post)))
 
-      left-loop : (n-fine : Fine a-usize n) (k : ℕ) (low : k ≤ n) (f-s : Fine a-State (s-at k)) (f-archive : Fine (known-array a-ArchiveLine 15) (archive-at k)) (f-log : Fine (known-array a-LogLine 250) (log-at k)) (f-audit : Fine (known-array a-AuditLine 200) (audit-at k)) (f-said : Fine (known-array a-Said 256) (said-at k)) (last : k ≡ n) → Sq W (‵ (froom ty38 l38 0) ∷ ‵ (fdies ty38 l38) ∷ ‵ (froom ty37 l37 0) ∷ ‵ (fdies ty37 l37) ∷ ‵ (froom ty36 l36 0) ∷ ‵ (fdies ty36 l36) ∷ ‵ (froom ty35 l35 0) ∷ ‵ (fdies ty35 l35) ∷ ‵ (froom ty34 l34 0) ∷ ‵ (fdies ty34 l34) ∷ ‵ (froom ty33 l33 0) ∷ ‵ (fdies ty33 l33) ∷ ‵ (froom ty32 l32 0) ∷ ‵ (fdies ty32 l32) ∷ ‵ (froom ty31 l31 0) ∷ ‵ (fdies ty31 l31) ∷ ‵ (froom ty30 l30 0) ∷ ‵ (fdies ty30 l30) ∷ ‵ (froom ty29 l29 0) ∷ ‵ (fdies ty29 l29) ∷ ‵ (froom ty28 l28 0) ∷ ‵ (fdies ty28 l28) ∷ ‵ (froom ty27 l27 0) ∷ ‵ (fdies ty27 l27) ∷ ‵ (froom ty26 l26 0) ∷ ‵ (fdies ty26 l26) ∷ ‵ (froom ty25 l25 0) ∷ ‵ (fdies ty25 l25) ∷ ‵ (froom ty24 l24 0) ∷ ‵ (fdies ty24 l24) ∷ ‵ (froom ty23 l23 0) ∷ ‵ (fdies ty23 l23) ∷ ‵ (froom ty22 l22 0) ∷ ‵ (fdies ty22 l22) ∷ ‵ (fat fullShare ty21 l21 0 (a-bool .val (ltb k n))) ∷ ‵ (fdies ty21 l21) ∷ ‵ (froom ty20 l20 0) ∷ ‵ (fdies ty20 l20) ∷ ‵ (froom ty19 l19 0) ∷ ‵ (fdies ty19 l19) ∷ ‵ (froom ty18 l18 0) ∷ ‵ (fdies ty18 l18) ∷ ‵ (froom ty17 l17 0) ∷ ‵ (fdies ty17 l17) ∷ ‵ (froom ty16 l16 0) ∷ ‵ (fdies ty16 l16) ∷ ‵ (froom ty15 l15 0) ∷ ‵ (fdies ty15 l15) ∷ ‵ (froom ty14 l14 0) ∷ ‵ (fdies ty14 l14) ∷ ‵ (froom ty13 l13 0) ∷ ‵ (fdies ty13 l13) ∷ ‵ (froom ty12 l12 0) ∷ ‵ (fdies ty12 l12) ∷ ‵ (fat fullShare ty11 l11 0 (a-usize .val k)) ∷ ‵ (fdies ty11 l11) ∷ ‵ (fat fullShare ty10 l10 0 ((known-array a-Said 256) .val (said-at k))) ∷ ‵ (fdies ty10 l10) ∷ ‵ (fat fullShare ty9 l9 0 ((known-array a-AuditLine 200) .val (audit-at k))) ∷ ‵ (fdies ty9 l9) ∷ ‵ (fat fullShare ty8 l8 0 ((known-array a-LogLine 250) .val (log-at k))) ∷ ‵ (fdies ty8 l8) ∷ ‵ (fat fullShare ty7 l7 0 ((known-array a-ArchiveLine 15) .val (archive-at k))) ∷ ‵ (fdies ty7 l7) ∷ ‵ (fat fullShare ty6 l6 0 (a-State .val (s-at k))) ∷ ‵ (fdies ty6 l6) ∷ ‵ (fat fullShare ty5 l5 0 (a-usize .val n)) ∷ ‵ (fdies ty5 l5) ∷ ‵ (fat fullShare ty4 l4 0 ((known-array a-Order 256) .val orders)) ∷ ‵ (fdies ty4 l4) ∷ ‵ (froom ty3 l3 0) ∷ ‵ (fdies ty3 l3) ∷ ‵ (froom ty2 l2 0) ∷ ‵ (fdies ty2 l2) ∷ ‵ (froom ty1 l1 0) ∷ ‵ (fdies ty1 l1) ∷ ‵ (froom ty0 l0 0) ∷ ‵ (fdies ty0 l0) ∷ []) (runs (𝓣 .C) (𝓣 .Λ) E M.t-14 (atRet E Post))
-      left-loop n-fine k low f-s f-archive f-log f-audit f-said last =
+      left-loop : (n-fine : Fine a-usize n) (k : ℕ) (low : k ≤ n) (f-s : Fine a-State (s-at k)) (f-sound : Fine a-bool (sound-at k)) (f-archive : Fine (known-array a-ArchiveLine 15) (archive-at k)) (f-log : Fine (known-array a-LogLine 250) (log-at k)) (f-audit : Fine (known-array a-AuditLine 200) (audit-at k)) (f-outputs : Fine (known-array a-Output 256) (outputs-at k)) (last : k ≡ n) → Sq W (‵ (froom ty41 l41 0) ∷ ‵ (fdies ty41 l41) ∷ ‵ (froom ty40 l40 0) ∷ ‵ (fdies ty40 l40) ∷ ‵ (froom ty39 l39 0) ∷ ‵ (fdies ty39 l39) ∷ ‵ (froom ty38 l38 0) ∷ ‵ (fdies ty38 l38) ∷ ‵ (froom ty37 l37 0) ∷ ‵ (fdies ty37 l37) ∷ ‵ (froom ty36 l36 0) ∷ ‵ (fdies ty36 l36) ∷ ‵ (froom ty35 l35 0) ∷ ‵ (fdies ty35 l35) ∷ ‵ (froom ty34 l34 0) ∷ ‵ (fdies ty34 l34) ∷ ‵ (froom ty33 l33 0) ∷ ‵ (fdies ty33 l33) ∷ ‵ (froom ty32 l32 0) ∷ ‵ (fdies ty32 l32) ∷ ‵ (froom ty31 l31 0) ∷ ‵ (fdies ty31 l31) ∷ ‵ (froom ty30 l30 0) ∷ ‵ (fdies ty30 l30) ∷ ‵ (froom ty29 l29 0) ∷ ‵ (fdies ty29 l29) ∷ ‵ (froom ty28 l28 0) ∷ ‵ (fdies ty28 l28) ∷ ‵ (froom ty27 l27 0) ∷ ‵ (fdies ty27 l27) ∷ ‵ (froom ty26 l26 0) ∷ ‵ (fdies ty26 l26) ∷ ‵ (froom ty25 l25 0) ∷ ‵ (fdies ty25 l25) ∷ ‵ (fat fullShare ty24 l24 0 (a-bool .val (ltb k n))) ∷ ‵ (fdies ty24 l24) ∷ ‵ (froom ty23 l23 0) ∷ ‵ (fdies ty23 l23) ∷ ‵ (froom ty22 l22 0) ∷ ‵ (fdies ty22 l22) ∷ ‵ (froom ty21 l21 0) ∷ ‵ (fdies ty21 l21) ∷ ‵ (froom ty20 l20 0) ∷ ‵ (fdies ty20 l20) ∷ ‵ (froom ty19 l19 0) ∷ ‵ (fdies ty19 l19) ∷ ‵ (froom ty18 l18 0) ∷ ‵ (fdies ty18 l18) ∷ ‵ (froom ty17 l17 0) ∷ ‵ (fdies ty17 l17) ∷ ‵ (froom ty16 l16 0) ∷ ‵ (fdies ty16 l16) ∷ ‵ (froom ty15 l15 0) ∷ ‵ (fdies ty15 l15) ∷ ‵ (froom ty14 l14 0) ∷ ‵ (fdies ty14 l14) ∷ ‵ (froom ty13 l13 0) ∷ ‵ (fdies ty13 l13) ∷ ‵ (fat fullShare ty12 l12 0 (a-usize .val k)) ∷ ‵ (fdies ty12 l12) ∷ ‵ (fat fullShare ty11 l11 0 ((known-array a-Output 256) .val (outputs-at k))) ∷ ‵ (fdies ty11 l11) ∷ ‵ (fat fullShare ty10 l10 0 ((known-array a-AuditLine 200) .val (audit-at k))) ∷ ‵ (fdies ty10 l10) ∷ ‵ (fat fullShare ty9 l9 0 ((known-array a-LogLine 250) .val (log-at k))) ∷ ‵ (fdies ty9 l9) ∷ ‵ (fat fullShare ty8 l8 0 ((known-array a-ArchiveLine 15) .val (archive-at k))) ∷ ‵ (fdies ty8 l8) ∷ ‵ (fat fullShare ty7 l7 0 (a-bool .val (sound-at k))) ∷ ‵ (fdies ty7 l7) ∷ ‵ (fat fullShare ty6 l6 0 (a-State .val (s-at k))) ∷ ‵ (fdies ty6 l6) ∷ ‵ (fat fullShare ty5 l5 0 (a-usize .val n)) ∷ ‵ (fdies ty5 l5) ∷ ‵ (fat fullShare ty4 l4 0 ((known-array a-Input 256) .val inputs)) ∷ ‵ (fdies ty4 l4) ∷ ‵ (froom ty3 l3 0) ∷ ‵ (fdies ty3 l3) ∷ ‵ (froom ty2 l2 0) ∷ ‵ (fdies ty2 l2) ∷ ‵ (froom ty1 l1 0) ∷ ‵ (fdies ty1 l1) ∷ ‵ (froom ty0 l0 0) ∷ ‵ (fdies ty0 l0) ∷ []) (runs (𝓣 .C) (𝓣 .Λ) E M.t-15 (atRet E Post))
+      left-loop n-fine k low f-s f-sound f-archive f-log f-audit f-outputs last =
           forget ! 34 refl $
-          assigns ! (of-opd ! (load ! (from ! (stop !)) (look ! 62 refl))) (from ! (stop !)) (init ! 42 refl ((known-array a-ArchiveLine 15) .lawful 𝓤 H A W .typed (archive-at k) _ f-archive .0)) $
-          assigns ! (of-opd ! (load ! (from ! (stop !)) (look ! 60 refl))) (from ! (stop !)) (init ! 40 refl ((known-array a-LogLine 250) .lawful 𝓤 H A W .typed (log-at k) _ f-log .0)) $
-          assigns ! (of-opd ! (load ! (from ! (stop !)) (look ! 58 refl))) (from ! (stop !)) (init ! 38 refl ((known-array a-AuditLine 200) .lawful 𝓤 H A W .typed (audit-at k) _ f-audit .0)) $
-          assigns ! (of-opd ! (load ! (from ! (stop !)) (look ! 56 refl))) (from ! (stop !)) (init ! 36 refl ((known-array a-Said 256) .lawful 𝓤 H A W .typed (said-at k) _ f-said .0)) $
-          calls-value ! fm (Says-put-together 𝓤 H A at-mem run) known-put-together (to-put-together k) (a-Served .val (is-put-together k)) _ (asks-put-together k f-s f-archive f-log f-audit f-said) (gives-put-together k) (and-then ! (load ! (from ! (stop !)) (look ! 65 refl)) (and-then ! (load ! (from ! (stop !)) (look ! 43 refl)) (and-then ! (load ! (from ! (stop !)) (look ! 41 refl)) (and-then ! (load ! (from ! (stop !)) (look ! 39 refl)) (and-then ! (load ! (from ! (stop !)) (look ! 37 refl)) (no-more !)))))) (λ t-put-together.
-          land ! (from ! (stop !)) (init ! 76 refl (a-Served .lawful 𝓤 H A W .typed (is-put-together k) _ t-put-together .0)) $
-          returns ! (look ! 76 refl) $ forget ! 36 refl $ forget ! 38 refl $ forget ! 40 refl $ forget ! 42 refl $ forget ! 54 refl $ forget ! 56 refl $ forget ! 58 refl $ forget ! 60 refl $ forget ! 62 refl $ forget ! 64 refl $ forget ! 66 refl $ forget ! 68 refl $ forget ! 76 refl $
-          move ! (76 ∷ 77 ∷ []) $ free1 ! $ move ! (74 ∷ 75 ∷ []) $ free1 ! $ move ! (72 ∷ 73 ∷ []) $ free1 ! $ move ! (70 ∷ 71 ∷ []) $ free1 ! $ move ! (68 ∷ 69 ∷ []) $ free1 ! $ move ! (66 ∷ 67 ∷ []) $ free1 ! $ move ! (64 ∷ 65 ∷ []) $ free1 ! $ move ! (62 ∷ 63 ∷ []) $ free1 ! $ move ! (60 ∷ 61 ∷ []) $ free1 ! $ move ! (58 ∷ 59 ∷ []) $ free1 ! $ move ! (56 ∷ 57 ∷ []) $ free1 ! $ move ! (54 ∷ 55 ∷ []) $ free1 ! $ move ! (52 ∷ 53 ∷ []) $ free1 ! $ move ! (50 ∷ 51 ∷ []) $ free1 ! $ move ! (48 ∷ 49 ∷ []) $ free1 ! $ move ! (46 ∷ 47 ∷ []) $ free1 ! $ move ! (44 ∷ 45 ∷ []) $ free1 ! $ move ! (42 ∷ 43 ∷ []) $ free1 ! $ move ! (40 ∷ 41 ∷ []) $ free1 ! $ move ! (38 ∷ 39 ∷ []) $ free1 ! $ move ! (36 ∷ 37 ∷ []) $ free1 ! $ move ! (34 ∷ 35 ∷ []) $ free1 ! $ move ! (32 ∷ 33 ∷ []) $ free1 ! $ move ! (30 ∷ 31 ∷ []) $ free1 ! $ move ! (28 ∷ 29 ∷ []) $ free1 ! $ move ! (26 ∷ 27 ∷ []) $ free1 ! $ move ! (24 ∷ 25 ∷ []) $ free1 ! $ move ! (22 ∷ 23 ∷ []) $ free1 ! $ move ! (20 ∷ 21 ∷ []) $ free1 ! $ move ! (18 ∷ 19 ∷ []) $ free1 ! $ move ! (16 ∷ 17 ∷ []) $ free1 ! $ move ! (14 ∷ 15 ∷ []) $ free1 ! $ move ! (12 ∷ 13 ∷ []) $ free1 ! $ move ! (10 ∷ 11 ∷ []) $ free1 ! $ move ! (8 ∷ 9 ∷ []) $ free1 ! $ move ! (6 ∷ 7 ∷ []) $ free1 ! $ move ! (4 ∷ 5 ∷ []) $ free1 ! $ move ! (2 ∷ 3 ∷ []) $ free1 ! $ free1 ! $ free0 ! $ keep ! [] $ by ! (exits k last t-put-together))
+          assigns ! (of-opd ! (load ! (from ! (stop !)) (look ! 66 refl))) (from ! (stop !)) (init ! 42 refl ((known-array a-ArchiveLine 15) .lawful 𝓤 H A W .typed (archive-at k) _ f-archive .0)) $
+          assigns ! (of-opd ! (load ! (from ! (stop !)) (look ! 64 refl))) (from ! (stop !)) (init ! 40 refl ((known-array a-LogLine 250) .lawful 𝓤 H A W .typed (log-at k) _ f-log .0)) $
+          assigns ! (of-opd ! (load ! (from ! (stop !)) (look ! 62 refl))) (from ! (stop !)) (init ! 38 refl ((known-array a-AuditLine 200) .lawful 𝓤 H A W .typed (audit-at k) _ f-audit .0)) $
+          assigns ! (of-opd ! (load ! (from ! (stop !)) (look ! 60 refl))) (from ! (stop !)) (init ! 36 refl ((known-array a-Output 256) .lawful 𝓤 H A W .typed (outputs-at k) _ f-outputs .0)) $
+          calls-value ! fm (Says-put-together 𝓤 H A at-mem run) known-put-together (to-put-together k) (a-Served .val (is-put-together k)) _ (asks-put-together k f-s f-archive f-log f-audit f-outputs) (gives-put-together k) (and-then ! (load ! (from ! (stop !)) (look ! 71 refl)) (and-then ! (load ! (from ! (stop !)) (look ! 43 refl)) (and-then ! (load ! (from ! (stop !)) (look ! 41 refl)) (and-then ! (load ! (from ! (stop !)) (look ! 39 refl)) (and-then ! (load ! (from ! (stop !)) (look ! 37 refl)) (no-more !)))))) (λ t-put-together.
+          land ! (from ! (stop !)) (init ! 82 refl (a-Served .lawful 𝓤 H A W .typed (is-put-together k) _ t-put-together .0)) $
+          returns ! (look ! 82 refl) $ forget ! 36 refl $ forget ! 38 refl $ forget ! 40 refl $ forget ! 42 refl $ forget ! 58 refl $ forget ! 60 refl $ forget ! 62 refl $ forget ! 64 refl $ forget ! 66 refl $ forget ! 68 refl $ forget ! 70 refl $ forget ! 72 refl $ forget ! 74 refl $ forget ! 82 refl $
+          move ! (82 ∷ 83 ∷ []) $ free1 ! $ move ! (80 ∷ 81 ∷ []) $ free1 ! $ move ! (78 ∷ 79 ∷ []) $ free1 ! $ move ! (76 ∷ 77 ∷ []) $ free1 ! $ move ! (74 ∷ 75 ∷ []) $ free1 ! $ move ! (72 ∷ 73 ∷ []) $ free1 ! $ move ! (70 ∷ 71 ∷ []) $ free1 ! $ move ! (68 ∷ 69 ∷ []) $ free1 ! $ move ! (66 ∷ 67 ∷ []) $ free1 ! $ move ! (64 ∷ 65 ∷ []) $ free1 ! $ move ! (62 ∷ 63 ∷ []) $ free1 ! $ move ! (60 ∷ 61 ∷ []) $ free1 ! $ move ! (58 ∷ 59 ∷ []) $ free1 ! $ move ! (56 ∷ 57 ∷ []) $ free1 ! $ move ! (54 ∷ 55 ∷ []) $ free1 ! $ move ! (52 ∷ 53 ∷ []) $ free1 ! $ move ! (50 ∷ 51 ∷ []) $ free1 ! $ move ! (48 ∷ 49 ∷ []) $ free1 ! $ move ! (46 ∷ 47 ∷ []) $ free1 ! $ move ! (44 ∷ 45 ∷ []) $ free1 ! $ move ! (42 ∷ 43 ∷ []) $ free1 ! $ move ! (40 ∷ 41 ∷ []) $ free1 ! $ move ! (38 ∷ 39 ∷ []) $ free1 ! $ move ! (36 ∷ 37 ∷ []) $ free1 ! $ move ! (34 ∷ 35 ∷ []) $ free1 ! $ move ! (32 ∷ 33 ∷ []) $ free1 ! $ move ! (30 ∷ 31 ∷ []) $ free1 ! $ move ! (28 ∷ 29 ∷ []) $ free1 ! $ move ! (26 ∷ 27 ∷ []) $ free1 ! $ move ! (24 ∷ 25 ∷ []) $ free1 ! $ move ! (22 ∷ 23 ∷ []) $ free1 ! $ move ! (20 ∷ 21 ∷ []) $ free1 ! $ move ! (18 ∷ 19 ∷ []) $ free1 ! $ move ! (16 ∷ 17 ∷ []) $ free1 ! $ move ! (14 ∷ 15 ∷ []) $ free1 ! $ move ! (12 ∷ 13 ∷ []) $ free1 ! $ move ! (10 ∷ 11 ∷ []) $ free1 ! $ move ! (8 ∷ 9 ∷ []) $ free1 ! $ move ! (6 ∷ 7 ∷ []) $ free1 ! $ move ! (4 ∷ 5 ∷ []) $ free1 ! $ move ! (2 ∷ 3 ∷ []) $ free1 ! $ free1 ! $ free0 ! $ keep ! [] $ by ! (exits k last t-put-together))
 
-      turn-ends : (n-fine : Fine a-usize n) (k : ℕ) (low : k ≤ n) (f-s : Fine a-State (s-at k)) (f-archive : Fine (known-array a-ArchiveLine 15) (archive-at k)) (f-log : Fine (known-array a-LogLine 250) (log-at k)) (f-audit : Fine (known-array a-AuditLine 200) (audit-at k)) (f-said : Fine (known-array a-Said 256) (said-at k)) (less : T (ltb k n)) (t-fetch-order : Fine a-Order (is-fetch-order k)) (ok-array4-fetch-order : Fine (known-array a-Order 256) orders) (t-command-in : Fine a-Command (is-command-in k)) (t-shown : Fine a-Reply (is-shown k)) (ok-array7-shown : Fine (known-array a-ArchiveLine 15) (archive-at k)) (ok-array8-shown : Fine (known-array a-LogLine 250) (log-at k)) (ok-array9-shown : Fine (known-array a-AuditLine 200) (audit-at k)) (t-answer : Fine a-Turn (is-answer k)) (ok-array7-answer : Fine (known-array a-ArchiveLine 15) (is-answer-array7 k)) (ok-array8-answer : Fine (known-array a-LogLine 250) (is-answer-array8 k)) (ok-array9-answer : Fine (known-array a-AuditLine 200) (is-answer-array9 k)) (t-said-in : Fine a-Said (is-said-in k)) (t-put-said : Fine a-unit tt) (ok-array10-put-said : Fine (known-array a-Said 256) (is-put-said-array10 k)) (t-state-in : Fine a-State (is-state-in k)) → Sq W (‵ (fat fullShare ty10 l10 0 ((known-array a-Said 256) .val (is-put-said-array10 k))) ∷ ‵ (fat fullShare ty9 l9 0 ((known-array a-AuditLine 200) .val (is-answer-array9 k))) ∷ ‵ (fat fullShare ty8 l8 0 ((known-array a-LogLine 250) .val (is-answer-array8 k))) ∷ ‵ (fat fullShare ty7 l7 0 ((known-array a-ArchiveLine 15) .val (is-answer-array7 k))) ∷ ‵ (fat fullShare ty4 l4 0 ((known-array a-Order 256) .val orders)) ∷ ‵ (froom ty38 l38 0) ∷ ‵ (fdies ty38 l38) ∷ ‵ (froom ty37 l37 0) ∷ ‵ (fdies ty37 l37) ∷ ‵ (fat fullShare ty36 l36 0 (a-unit .val tt)) ∷ ‵ (fdies ty36 l36) ∷ ‵ (froom ty35 l35 0) ∷ ‵ (fdies ty35 l35) ∷ ‵ (froom ty34 l34 0) ∷ ‵ (fdies ty34 l34) ∷ ‵ (froom ty33 l33 0) ∷ ‵ (fdies ty33 l33) ∷ ‵ (froom ty32 l32 0) ∷ ‵ (fdies ty32 l32) ∷ ‵ (froom ty31 l31 0) ∷ ‵ (fdies ty31 l31) ∷ ‵ (froom ty30 l30 0) ∷ ‵ (fdies ty30 l30) ∷ ‵ (froom ty29 l29 0) ∷ ‵ (fdies ty29 l29) ∷ ‵ (froom ty28 l28 0) ∷ ‵ (fdies ty28 l28) ∷ ‵ (froom ty27 l27 0) ∷ ‵ (fdies ty27 l27) ∷ ‵ (froom ty26 l26 0) ∷ ‵ (fdies ty26 l26) ∷ ‵ (froom ty25 l25 0) ∷ ‵ (fdies ty25 l25) ∷ ‵ (froom ty24 l24 0) ∷ ‵ (fdies ty24 l24) ∷ ‵ (froom ty23 l23 0) ∷ ‵ (fdies ty23 l23) ∷ ‵ (froom ty22 l22 0) ∷ ‵ (fdies ty22 l22) ∷ ‵ (froom ty21 l21 0) ∷ ‵ (fdies ty21 l21) ∷ ‵ (froom ty20 l20 0) ∷ ‵ (fdies ty20 l20) ∷ ‵ (froom ty19 l19 0) ∷ ‵ (fdies ty19 l19) ∷ ‵ (froom ty18 l18 0) ∷ ‵ (fdies ty18 l18) ∷ ‵ (froom ty17 l17 0) ∷ ‵ (fdies ty17 l17) ∷ ‵ (fat fullShare ty16 l16 0 (a-Said .val (is-said-in k))) ∷ ‵ (fdies ty16 l16) ∷ ‵ (fat fullShare ty15 l15 0 (a-Turn .val (is-answer k))) ∷ ‵ (fdies ty15 l15) ∷ ‵ (fat fullShare ty14 l14 0 (a-Reply .val (is-shown k))) ∷ ‵ (fdies ty14 l14) ∷ ‵ (fat fullShare ty13 l13 0 (a-Command .val (is-command-in k))) ∷ ‵ (fdies ty13 l13) ∷ ‵ (fat fullShare ty12 l12 0 (a-Order .val (is-fetch-order k))) ∷ ‵ (fdies ty12 l12) ∷ ‵ (fat fullShare ty11 l11 0 (a-usize .val k)) ∷ ‵ (fdies ty11 l11) ∷ ‵ (fdies ty10 l10) ∷ ‵ (fdies ty9 l9) ∷ ‵ (fdies ty8 l8) ∷ ‵ (fdies ty7 l7) ∷ ‵ (fat fullShare ty6 l6 0 (a-State .val (is-state-in k))) ∷ ‵ (fdies ty6 l6) ∷ ‵ (fat fullShare ty5 l5 0 (a-usize .val n)) ∷ ‵ (fdies ty5 l5) ∷ ‵ (fdies ty4 l4) ∷ ‵ (froom ty3 l3 0) ∷ ‵ (fdies ty3 l3) ∷ ‵ (froom ty2 l2 0) ∷ ‵ (fdies ty2 l2) ∷ ‵ (froom ty1 l1 0) ∷ ‵ (fdies ty1 l1) ∷ ‵ (froom ty0 l0 0) ∷ ‵ (fdies ty0 l0) ∷ []) (runs (𝓣 .C) (𝓣 .Λ) E (rest-of (rest-of (rest-of (rest-of (rest-of (rest-of (rest-of (rest-of (rest-of (rest-of (rest-of (rest-of (rest-of (rest-of (rest-of (rest-of (rest-of (rest-of (rest-of (rest-of (rest-of (rest-of (rest-of (rest-of (rest-of (M.turn-1)))))))))))))))))))))))))) (anyQ (Turned (k, (low, (f-s, (f-archive, (f-log, (f-audit, f-said)))))))))
-      unfolding after deskAfter shownOn saidUpTo replyOn saidOf afterTurn
-      turn-ends n-fine k low f-s f-archive f-log f-audit f-said less t-fetch-order ok-array4-fetch-order t-command-in t-shown ok-array7-shown ok-array8-shown ok-array9-shown t-answer ok-array7-answer ok-array8-answer ok-array9-answer t-said-in t-put-said ok-array10-put-said t-state-in =
-          assigns-last ! (bin ! (load ! (from ! (stop !)) (look ! 59 refl)) (lit ! tt) (record { fits = below (k + 1) n (add-one-le (ltb→lt k n less)) (n-fine .1) })) (from ! (stop !)) (store ! 59 refl (tt, record { fits = below (k + 1) n (add-one-le (ltb→lt k n less)) (n-fine .1) })) $
-          rewrite ! 59 (λ (m : ℕ). ‵ (fat fullShare ty11 l11 0 (vint w64 m))) (add-one k) refl $
-          forget ! 9 refl $ forget ! 49 refl $ forget ! 51 refl $ forget ! 53 refl $ forget ! 55 refl $ forget ! 57 refl $
-          keep ! (5 ∷ 6 ∷ 7 ∷ 8 ∷ 9 ∷ 10 ∷ 11 ∷ 12 ∷ 13 ∷ 14 ∷ 15 ∷ 16 ∷ 17 ∷ 18 ∷ 19 ∷ 20 ∷ 21 ∷ 22 ∷ 23 ∷ 24 ∷ 25 ∷ 26 ∷ 27 ∷ 28 ∷ 29 ∷ 30 ∷ 31 ∷ 32 ∷ 33 ∷ 34 ∷ 35 ∷ 36 ∷ 37 ∷ 38 ∷ 39 ∷ 40 ∷ 41 ∷ 42 ∷ 43 ∷ 44 ∷ 45 ∷ 46 ∷ 47 ∷ 48 ∷ 49 ∷ 50 ∷ 51 ∷ 52 ∷ 53 ∷ 54 ∷ 55 ∷ 56 ∷ 57 ∷ 58 ∷ 59 ∷ 60 ∷ 0 ∷ 61 ∷ 1 ∷ 62 ∷ 2 ∷ 63 ∷ 3 ∷ 64 ∷ 65 ∷ 66 ∷ 67 ∷ 68 ∷ 4 ∷ 69 ∷ 70 ∷ 71 ∷ 72 ∷ 73 ∷ 74 ∷ 75 ∷ 76 ∷ 77 ∷ []) $
-          again ! Nearer At (k, (low, (f-s, (f-archive, (f-log, (f-audit, f-said)))))) (suc k, (ltb→lt k n less, (t-state-in, (ok-array7-answer, (ok-array8-answer, (ok-array9-answer, ok-array10-put-said)))))) (nearer k n (ltb→lt k n less))
+      turn-ends : (n-fine : Fine a-usize n) (k : ℕ) (low : k ≤ n) (f-s : Fine a-State (s-at k)) (f-sound : Fine a-bool (sound-at k)) (f-archive : Fine (known-array a-ArchiveLine 15) (archive-at k)) (f-log : Fine (known-array a-LogLine 250) (log-at k)) (f-audit : Fine (known-array a-AuditLine 200) (audit-at k)) (f-outputs : Fine (known-array a-Output 256) (outputs-at k)) (less : T (ltb k n)) (t-fetch-input : Fine a-Input (is-fetch-input k)) (ok-array4-fetch-input : Fine (known-array a-Input 256) inputs) (t-entry-in : Fine a-Entry (is-entry-in k)) (t-command-in : Fine a-Command (is-command-in k)) (t-seen : Fine a-Reply (is-seen k)) (ok-array8-seen : Fine (known-array a-ArchiveLine 15) (archive-at k)) (ok-array9-seen : Fine (known-array a-LogLine 250) (log-at k)) (ok-array10-seen : Fine (known-array a-AuditLine 200) (audit-at k)) (t-answer : Fine a-Answer (is-answer k)) (ok-array8-answer : Fine (known-array a-ArchiveLine 15) (is-answer-array8 k)) (ok-array9-answer : Fine (known-array a-LogLine 250) (is-answer-array9 k)) (ok-array10-answer : Fine (known-array a-AuditLine 200) (is-answer-array10 k)) (t-answered-in : Fine a-Answer (is-answered-in k)) (t-output-by : Fine a-Output (is-output-by k)) (t-put-output : Fine a-unit tt) (ok-array11-put-output : Fine (known-array a-Output 256) (is-put-output-array11 k)) (t-state-in : Fine a-State (is-state-in k)) (t-sound-by : Fine a-bool (is-sound-by k)) → Sq W (‵ (fat fullShare ty11 l11 0 ((known-array a-Output 256) .val (is-put-output-array11 k))) ∷ ‵ (fat fullShare ty10 l10 0 ((known-array a-AuditLine 200) .val (is-answer-array10 k))) ∷ ‵ (fat fullShare ty9 l9 0 ((known-array a-LogLine 250) .val (is-answer-array9 k))) ∷ ‵ (fat fullShare ty8 l8 0 ((known-array a-ArchiveLine 15) .val (is-answer-array8 k))) ∷ ‵ (fat fullShare ty4 l4 0 ((known-array a-Input 256) .val inputs)) ∷ ‵ (froom ty41 l41 0) ∷ ‵ (fdies ty41 l41) ∷ ‵ (froom ty40 l40 0) ∷ ‵ (fdies ty40 l40) ∷ ‵ (fat fullShare ty39 l39 0 (a-unit .val tt)) ∷ ‵ (fdies ty39 l39) ∷ ‵ (froom ty38 l38 0) ∷ ‵ (fdies ty38 l38) ∷ ‵ (froom ty37 l37 0) ∷ ‵ (fdies ty37 l37) ∷ ‵ (froom ty36 l36 0) ∷ ‵ (fdies ty36 l36) ∷ ‵ (froom ty35 l35 0) ∷ ‵ (fdies ty35 l35) ∷ ‵ (froom ty34 l34 0) ∷ ‵ (fdies ty34 l34) ∷ ‵ (froom ty33 l33 0) ∷ ‵ (fdies ty33 l33) ∷ ‵ (froom ty32 l32 0) ∷ ‵ (fdies ty32 l32) ∷ ‵ (froom ty31 l31 0) ∷ ‵ (fdies ty31 l31) ∷ ‵ (froom ty30 l30 0) ∷ ‵ (fdies ty30 l30) ∷ ‵ (froom ty29 l29 0) ∷ ‵ (fdies ty29 l29) ∷ ‵ (froom ty28 l28 0) ∷ ‵ (fdies ty28 l28) ∷ ‵ (froom ty27 l27 0) ∷ ‵ (fdies ty27 l27) ∷ ‵ (froom ty26 l26 0) ∷ ‵ (fdies ty26 l26) ∷ ‵ (froom ty25 l25 0) ∷ ‵ (fdies ty25 l25) ∷ ‵ (froom ty24 l24 0) ∷ ‵ (fdies ty24 l24) ∷ ‵ (froom ty23 l23 0) ∷ ‵ (fdies ty23 l23) ∷ ‵ (froom ty22 l22 0) ∷ ‵ (fdies ty22 l22) ∷ ‵ (froom ty21 l21 0) ∷ ‵ (fdies ty21 l21) ∷ ‵ (froom ty20 l20 0) ∷ ‵ (fdies ty20 l20) ∷ ‵ (fat fullShare ty19 l19 0 (a-Output .val (is-output-by k))) ∷ ‵ (fdies ty19 l19) ∷ ‵ (fat fullShare ty18 l18 0 (a-Answer .val (is-answered-in k))) ∷ ‵ (fdies ty18 l18) ∷ ‵ (fat fullShare ty17 l17 0 (a-Answer .val (is-answer k))) ∷ ‵ (fdies ty17 l17) ∷ ‵ (fat fullShare ty16 l16 0 (a-Reply .val (is-seen k))) ∷ ‵ (fdies ty16 l16) ∷ ‵ (fat fullShare ty15 l15 0 (a-Command .val (is-command-in k))) ∷ ‵ (fdies ty15 l15) ∷ ‵ (fat fullShare ty14 l14 0 (a-Entry .val (is-entry-in k))) ∷ ‵ (fdies ty14 l14) ∷ ‵ (fat fullShare ty13 l13 0 (a-Input .val (is-fetch-input k))) ∷ ‵ (fdies ty13 l13) ∷ ‵ (fat fullShare ty12 l12 0 (a-usize .val k)) ∷ ‵ (fdies ty12 l12) ∷ ‵ (fdies ty11 l11) ∷ ‵ (fdies ty10 l10) ∷ ‵ (fdies ty9 l9) ∷ ‵ (fdies ty8 l8) ∷ ‵ (fat fullShare ty7 l7 0 (a-bool .val (is-sound-by k))) ∷ ‵ (fdies ty7 l7) ∷ ‵ (fat fullShare ty6 l6 0 (a-State .val (is-state-in k))) ∷ ‵ (fdies ty6 l6) ∷ ‵ (fat fullShare ty5 l5 0 (a-usize .val n)) ∷ ‵ (fdies ty5 l5) ∷ ‵ (fdies ty4 l4) ∷ ‵ (froom ty3 l3 0) ∷ ‵ (fdies ty3 l3) ∷ ‵ (froom ty2 l2 0) ∷ ‵ (fdies ty2 l2) ∷ ‵ (froom ty1 l1 0) ∷ ‵ (fdies ty1 l1) ∷ ‵ (froom ty0 l0 0) ∷ ‵ (fdies ty0 l0) ∷ []) (runs (𝓣 .C) (𝓣 .Λ) E (rest-of (rest-of (rest-of (rest-of (rest-of (rest-of (rest-of (rest-of (rest-of (rest-of (rest-of (rest-of (rest-of (rest-of (rest-of (rest-of (rest-of (rest-of (rest-of (rest-of (rest-of (rest-of (rest-of (rest-of (rest-of (rest-of (rest-of (rest-of (M.turn-1))))))))))))))))))))))))))))) (anyQ (Turned (k, (low, (f-s, (f-sound, (f-archive, (f-log, (f-audit, f-outputs))))))))))
+      unfolding after deskAfter seenOn turnOn soundAfter outputsUpTo outputOn afterTurn
+      turn-ends n-fine k low f-s f-sound f-archive f-log f-audit f-outputs less t-fetch-input ok-array4-fetch-input t-entry-in t-command-in t-seen ok-array8-seen ok-array9-seen ok-array10-seen t-answer ok-array8-answer ok-array9-answer ok-array10-answer t-answered-in t-output-by t-put-output ok-array11-put-output t-state-in t-sound-by =
+          assigns-last ! (bin ! (load ! (from ! (stop !)) (look ! 63 refl)) (lit ! tt) (record { fits = below (k + 1) n (add-one-le (ltb→lt k n less)) (n-fine .1) })) (from ! (stop !)) (store ! 63 refl (tt, record { fits = below (k + 1) n (add-one-le (ltb→lt k n less)) (n-fine .1) })) $
+          rewrite ! 63 (λ (m : ℕ). ‵ (fat fullShare ty12 l12 0 (vint w64 m))) (add-one k) refl $
+          forget ! 9 refl $ forget ! 49 refl $ forget ! 51 refl $ forget ! 53 refl $ forget ! 55 refl $ forget ! 57 refl $ forget ! 59 refl $ forget ! 61 refl $
+          keep ! (5 ∷ 6 ∷ 7 ∷ 8 ∷ 9 ∷ 10 ∷ 11 ∷ 12 ∷ 13 ∷ 14 ∷ 15 ∷ 16 ∷ 17 ∷ 18 ∷ 19 ∷ 20 ∷ 21 ∷ 22 ∷ 23 ∷ 24 ∷ 25 ∷ 26 ∷ 27 ∷ 28 ∷ 29 ∷ 30 ∷ 31 ∷ 32 ∷ 33 ∷ 34 ∷ 35 ∷ 36 ∷ 37 ∷ 38 ∷ 39 ∷ 40 ∷ 41 ∷ 42 ∷ 43 ∷ 44 ∷ 45 ∷ 46 ∷ 47 ∷ 48 ∷ 49 ∷ 50 ∷ 51 ∷ 52 ∷ 53 ∷ 54 ∷ 55 ∷ 56 ∷ 57 ∷ 58 ∷ 59 ∷ 60 ∷ 61 ∷ 62 ∷ 63 ∷ 64 ∷ 0 ∷ 65 ∷ 1 ∷ 66 ∷ 2 ∷ 67 ∷ 3 ∷ 68 ∷ 69 ∷ 70 ∷ 71 ∷ 72 ∷ 73 ∷ 74 ∷ 4 ∷ 75 ∷ 76 ∷ 77 ∷ 78 ∷ 79 ∷ 80 ∷ 81 ∷ 82 ∷ 83 ∷ []) $
+          again ! Nearer At (k, (low, (f-s, (f-sound, (f-archive, (f-log, (f-audit, f-outputs))))))) (suc k, (ltb→lt k n less, (t-state-in, (t-sound-by, (ok-array8-answer, (ok-array9-answer, (ok-array10-answer, ok-array11-put-output))))))) (nearer k n (ltb→lt k n less))
 
-      turn-4 : (n-fine : Fine a-usize n) (k : ℕ) (low : k ≤ n) (f-s : Fine a-State (s-at k)) (f-archive : Fine (known-array a-ArchiveLine 15) (archive-at k)) (f-log : Fine (known-array a-LogLine 250) (log-at k)) (f-audit : Fine (known-array a-AuditLine 200) (audit-at k)) (f-said : Fine (known-array a-Said 256) (said-at k)) (less : T (ltb k n)) (t-fetch-order : Fine a-Order (is-fetch-order k)) (ok-array4-fetch-order : Fine (known-array a-Order 256) orders) (t-command-in : Fine a-Command (is-command-in k)) (t-shown : Fine a-Reply (is-shown k)) (ok-array7-shown : Fine (known-array a-ArchiveLine 15) (archive-at k)) (ok-array8-shown : Fine (known-array a-LogLine 250) (log-at k)) (ok-array9-shown : Fine (known-array a-AuditLine 200) (audit-at k)) (t-answer : Fine a-Turn (is-answer k)) (ok-array7-answer : Fine (known-array a-ArchiveLine 15) (is-answer-array7 k)) (ok-array8-answer : Fine (known-array a-LogLine 250) (is-answer-array8 k)) (ok-array9-answer : Fine (known-array a-AuditLine 200) (is-answer-array9 k)) (t-said-in : Fine a-Said (is-said-in k)) → Sq W (‵ (fat fullShare ty9 l9 0 ((known-array a-AuditLine 200) .val (is-answer-array9 k))) ∷ ‵ (fat fullShare ty8 l8 0 ((known-array a-LogLine 250) .val (is-answer-array8 k))) ∷ ‵ (fat fullShare ty7 l7 0 ((known-array a-ArchiveLine 15) .val (is-answer-array7 k))) ∷ ‵ (fat fullShare ty4 l4 0 ((known-array a-Order 256) .val orders)) ∷ ‵ (froom ty38 l38 0) ∷ ‵ (fdies ty38 l38) ∷ ‵ (froom ty37 l37 0) ∷ ‵ (fdies ty37 l37) ∷ ‵ (froom ty36 l36 0) ∷ ‵ (fdies ty36 l36) ∷ ‵ (froom ty35 l35 0) ∷ ‵ (fdies ty35 l35) ∷ ‵ (froom ty34 l34 0) ∷ ‵ (fdies ty34 l34) ∷ ‵ (froom ty33 l33 0) ∷ ‵ (fdies ty33 l33) ∷ ‵ (froom ty32 l32 0) ∷ ‵ (fdies ty32 l32) ∷ ‵ (froom ty31 l31 0) ∷ ‵ (fdies ty31 l31) ∷ ‵ (froom ty30 l30 0) ∷ ‵ (fdies ty30 l30) ∷ ‵ (froom ty29 l29 0) ∷ ‵ (fdies ty29 l29) ∷ ‵ (froom ty28 l28 0) ∷ ‵ (fdies ty28 l28) ∷ ‵ (froom ty27 l27 0) ∷ ‵ (fdies ty27 l27) ∷ ‵ (froom ty26 l26 0) ∷ ‵ (fdies ty26 l26) ∷ ‵ (froom ty25 l25 0) ∷ ‵ (fdies ty25 l25) ∷ ‵ (froom ty24 l24 0) ∷ ‵ (fdies ty24 l24) ∷ ‵ (froom ty23 l23 0) ∷ ‵ (fdies ty23 l23) ∷ ‵ (froom ty22 l22 0) ∷ ‵ (fdies ty22 l22) ∷ ‵ (froom ty21 l21 0) ∷ ‵ (fdies ty21 l21) ∷ ‵ (froom ty20 l20 0) ∷ ‵ (fdies ty20 l20) ∷ ‵ (froom ty19 l19 0) ∷ ‵ (fdies ty19 l19) ∷ ‵ (froom ty18 l18 0) ∷ ‵ (fdies ty18 l18) ∷ ‵ (froom ty17 l17 0) ∷ ‵ (fdies ty17 l17) ∷ ‵ (fat fullShare ty16 l16 0 (a-Said .val (is-said-in k))) ∷ ‵ (fdies ty16 l16) ∷ ‵ (fat fullShare ty15 l15 0 (a-Turn .val (is-answer k))) ∷ ‵ (fdies ty15 l15) ∷ ‵ (fat fullShare ty14 l14 0 (a-Reply .val (is-shown k))) ∷ ‵ (fdies ty14 l14) ∷ ‵ (fat fullShare ty13 l13 0 (a-Command .val (is-command-in k))) ∷ ‵ (fdies ty13 l13) ∷ ‵ (fat fullShare ty12 l12 0 (a-Order .val (is-fetch-order k))) ∷ ‵ (fdies ty12 l12) ∷ ‵ (fat fullShare ty11 l11 0 (a-usize .val k)) ∷ ‵ (fdies ty11 l11) ∷ ‵ (fat fullShare ty10 l10 0 ((known-array a-Said 256) .val (said-at k))) ∷ ‵ (fdies ty10 l10) ∷ ‵ (fdies ty9 l9) ∷ ‵ (fdies ty8 l8) ∷ ‵ (fdies ty7 l7) ∷ ‵ (fat fullShare ty6 l6 0 (a-State .val (s-at k))) ∷ ‵ (fdies ty6 l6) ∷ ‵ (fat fullShare ty5 l5 0 (a-usize .val n)) ∷ ‵ (fdies ty5 l5) ∷ ‵ (fdies ty4 l4) ∷ ‵ (froom ty3 l3 0) ∷ ‵ (fdies ty3 l3) ∷ ‵ (froom ty2 l2 0) ∷ ‵ (fdies ty2 l2) ∷ ‵ (froom ty1 l1 0) ∷ ‵ (fdies ty1 l1) ∷ ‵ (froom ty0 l0 0) ∷ ‵ (fdies ty0 l0) ∷ []) (runs (𝓣 .C) (𝓣 .Λ) E (rest-of (rest-of (rest-of (rest-of (rest-of (rest-of (rest-of (rest-of (rest-of (rest-of (rest-of (rest-of (rest-of (rest-of (rest-of (rest-of (rest-of (rest-of (rest-of (rest-of (rest-of (M.turn-1)))))))))))))))))))))) (anyQ (Turned (k, (low, (f-s, (f-archive, (f-log, (f-audit, f-said)))))))))
-      turn-4 n-fine k low f-s f-archive f-log f-audit f-said less t-fetch-order ok-array4-fetch-order t-command-in t-shown ok-array7-shown ok-array8-shown ok-array9-shown t-answer ok-array7-answer ok-array8-answer ok-array9-answer t-said-in =
+      turn-4 : (n-fine : Fine a-usize n) (k : ℕ) (low : k ≤ n) (f-s : Fine a-State (s-at k)) (f-sound : Fine a-bool (sound-at k)) (f-archive : Fine (known-array a-ArchiveLine 15) (archive-at k)) (f-log : Fine (known-array a-LogLine 250) (log-at k)) (f-audit : Fine (known-array a-AuditLine 200) (audit-at k)) (f-outputs : Fine (known-array a-Output 256) (outputs-at k)) (less : T (ltb k n)) (t-fetch-input : Fine a-Input (is-fetch-input k)) (ok-array4-fetch-input : Fine (known-array a-Input 256) inputs) (t-entry-in : Fine a-Entry (is-entry-in k)) (t-command-in : Fine a-Command (is-command-in k)) (t-seen : Fine a-Reply (is-seen k)) (ok-array8-seen : Fine (known-array a-ArchiveLine 15) (archive-at k)) (ok-array9-seen : Fine (known-array a-LogLine 250) (log-at k)) (ok-array10-seen : Fine (known-array a-AuditLine 200) (audit-at k)) (t-answer : Fine a-Answer (is-answer k)) (ok-array8-answer : Fine (known-array a-ArchiveLine 15) (is-answer-array8 k)) (ok-array9-answer : Fine (known-array a-LogLine 250) (is-answer-array9 k)) (ok-array10-answer : Fine (known-array a-AuditLine 200) (is-answer-array10 k)) (t-answered-in : Fine a-Answer (is-answered-in k)) (t-output-by : Fine a-Output (is-output-by k)) → Sq W (‵ (fat fullShare ty10 l10 0 ((known-array a-AuditLine 200) .val (is-answer-array10 k))) ∷ ‵ (fat fullShare ty9 l9 0 ((known-array a-LogLine 250) .val (is-answer-array9 k))) ∷ ‵ (fat fullShare ty8 l8 0 ((known-array a-ArchiveLine 15) .val (is-answer-array8 k))) ∷ ‵ (fat fullShare ty4 l4 0 ((known-array a-Input 256) .val inputs)) ∷ ‵ (froom ty41 l41 0) ∷ ‵ (fdies ty41 l41) ∷ ‵ (froom ty40 l40 0) ∷ ‵ (fdies ty40 l40) ∷ ‵ (froom ty39 l39 0) ∷ ‵ (fdies ty39 l39) ∷ ‵ (froom ty38 l38 0) ∷ ‵ (fdies ty38 l38) ∷ ‵ (froom ty37 l37 0) ∷ ‵ (fdies ty37 l37) ∷ ‵ (froom ty36 l36 0) ∷ ‵ (fdies ty36 l36) ∷ ‵ (froom ty35 l35 0) ∷ ‵ (fdies ty35 l35) ∷ ‵ (froom ty34 l34 0) ∷ ‵ (fdies ty34 l34) ∷ ‵ (froom ty33 l33 0) ∷ ‵ (fdies ty33 l33) ∷ ‵ (froom ty32 l32 0) ∷ ‵ (fdies ty32 l32) ∷ ‵ (froom ty31 l31 0) ∷ ‵ (fdies ty31 l31) ∷ ‵ (froom ty30 l30 0) ∷ ‵ (fdies ty30 l30) ∷ ‵ (froom ty29 l29 0) ∷ ‵ (fdies ty29 l29) ∷ ‵ (froom ty28 l28 0) ∷ ‵ (fdies ty28 l28) ∷ ‵ (froom ty27 l27 0) ∷ ‵ (fdies ty27 l27) ∷ ‵ (froom ty26 l26 0) ∷ ‵ (fdies ty26 l26) ∷ ‵ (froom ty25 l25 0) ∷ ‵ (fdies ty25 l25) ∷ ‵ (froom ty24 l24 0) ∷ ‵ (fdies ty24 l24) ∷ ‵ (froom ty23 l23 0) ∷ ‵ (fdies ty23 l23) ∷ ‵ (froom ty22 l22 0) ∷ ‵ (fdies ty22 l22) ∷ ‵ (froom ty21 l21 0) ∷ ‵ (fdies ty21 l21) ∷ ‵ (froom ty20 l20 0) ∷ ‵ (fdies ty20 l20) ∷ ‵ (fat fullShare ty19 l19 0 (a-Output .val (is-output-by k))) ∷ ‵ (fdies ty19 l19) ∷ ‵ (fat fullShare ty18 l18 0 (a-Answer .val (is-answered-in k))) ∷ ‵ (fdies ty18 l18) ∷ ‵ (fat fullShare ty17 l17 0 (a-Answer .val (is-answer k))) ∷ ‵ (fdies ty17 l17) ∷ ‵ (fat fullShare ty16 l16 0 (a-Reply .val (is-seen k))) ∷ ‵ (fdies ty16 l16) ∷ ‵ (fat fullShare ty15 l15 0 (a-Command .val (is-command-in k))) ∷ ‵ (fdies ty15 l15) ∷ ‵ (fat fullShare ty14 l14 0 (a-Entry .val (is-entry-in k))) ∷ ‵ (fdies ty14 l14) ∷ ‵ (fat fullShare ty13 l13 0 (a-Input .val (is-fetch-input k))) ∷ ‵ (fdies ty13 l13) ∷ ‵ (fat fullShare ty12 l12 0 (a-usize .val k)) ∷ ‵ (fdies ty12 l12) ∷ ‵ (fat fullShare ty11 l11 0 ((known-array a-Output 256) .val (outputs-at k))) ∷ ‵ (fdies ty11 l11) ∷ ‵ (fdies ty10 l10) ∷ ‵ (fdies ty9 l9) ∷ ‵ (fdies ty8 l8) ∷ ‵ (fat fullShare ty7 l7 0 (a-bool .val (sound-at k))) ∷ ‵ (fdies ty7 l7) ∷ ‵ (fat fullShare ty6 l6 0 (a-State .val (s-at k))) ∷ ‵ (fdies ty6 l6) ∷ ‵ (fat fullShare ty5 l5 0 (a-usize .val n)) ∷ ‵ (fdies ty5 l5) ∷ ‵ (fdies ty4 l4) ∷ ‵ (froom ty3 l3 0) ∷ ‵ (fdies ty3 l3) ∷ ‵ (froom ty2 l2 0) ∷ ‵ (fdies ty2 l2) ∷ ‵ (froom ty1 l1 0) ∷ ‵ (fdies ty1 l1) ∷ ‵ (froom ty0 l0 0) ∷ ‵ (fdies ty0 l0) ∷ []) (runs (𝓣 .C) (𝓣 .Λ) E (rest-of (rest-of (rest-of (rest-of (rest-of (rest-of (rest-of (rest-of (rest-of (rest-of (rest-of (rest-of (rest-of (rest-of (rest-of (rest-of (rest-of (rest-of (rest-of (rest-of (rest-of (rest-of (rest-of (M.turn-1)))))))))))))))))))))))) (anyQ (Turned (k, (low, (f-s, (f-sound, (f-archive, (f-log, (f-audit, f-outputs))))))))))
+      turn-4 n-fine k low f-s f-sound f-archive f-log f-audit f-outputs less t-fetch-input ok-array4-fetch-input t-entry-in t-command-in t-seen ok-array8-seen ok-array9-seen ok-array10-seen t-answer ok-array8-answer ok-array9-answer ok-array10-answer t-answered-in t-output-by =
           assigns ! (addr ! (from ! (stop !))) (from ! (stop !)) (init ! 6 refl (tt, tt)) $
           assigns ! (agg ! (and-then ! (load ! (from ! (stop !)) (look ! 6 refl)) (and-then ! (lit ! tt) (no-more !)))) (from ! (stop !)) (init ! 4 refl (tt, (tt, (record { fits = lit< tt }, tt)))) $
-          rewrite ! 4 (λ (m : ℕ). ‵ (fat fullShare ty38 l38 0 (sliceVal (l10, 0) m))) (sym (f-said .1 .0 .1)) refl $
-          lft-new ! tt (λ α10-put-said. has ! (known-array a-Said 256) (said-at k) f-said $ move ! (62 ∷ 0 ∷ []) $ use2 W (later (some (λ (γ10-put-said : GName). ‵ (MutSlice (named 0) (α10-put-said ∷ []) Said′.the-row .own (record { ptr = (l10, 0); name = γ10-put-said; now = (said-at k) }) ((sliceVal (l10, 0) (length (said-at k))) ∷ [])) ⊛ ‵ (flent (α10-put-said ∷ []) (Held Said′.the-row (length (said-at k)) l10 0 γ10-put-said))))) (lends-array 𝓤 H A W a-Said 256 tt (named 0) (α10-put-said ∷ []) (said-at k) ((known-array a-Said 256) .val (said-at k)) l10 (subst (Room Said′.the-row) (sym (f-said .1 .0 .1)) (lit< tt, lit< tt))) $ await ! tt $ pick ! (λ γ10-put-said. split ! $
+          rewrite ! 4 (λ (m : ℕ). ‵ (fat fullShare ty41 l41 0 (sliceVal (l11, 0) m))) (sym (f-outputs .1 .0 .1)) refl $
+          lft-new ! tt (λ α11-put-output. has ! (known-array a-Output 256) (outputs-at k) f-outputs $ move ! (66 ∷ 0 ∷ []) $ use2 W (later (some (λ (γ11-put-output : GName). ‵ (MutSlice (named 0) (α11-put-output ∷ []) Output′.the-row .own (record { ptr = (l11, 0); name = γ11-put-output; now = (outputs-at k) }) ((sliceVal (l11, 0) (length (outputs-at k))) ∷ [])) ⊛ ‵ (flent (α11-put-output ∷ []) (Held Output′.the-row (length (outputs-at k)) l11 0 γ11-put-output))))) (lends-array 𝓤 H A W a-Output 256 tt (named 0) (α11-put-output ∷ []) (outputs-at k) ((known-array a-Output 256) .val (outputs-at k)) l11 (subst (Room Output′.the-row) (sym (f-outputs .1 .0 .1)) (lit< tt, lit< tt))) $ await ! tt $ pick ! (λ γ11-put-output. split ! $
           nothing ! $ move ! (3 ∷ 0 ∷ []) $ join ! $ move ! (1 ∷ []) $ move ! (1 ∷ 0 ∷ []) $ join ! $
-          calls-with ! fm (Says-put-said 𝓤 H A at-mem run) known-put-said (to-put-said k l10 α10-put-said γ10-put-said) ((‵ (flft (α10-put-said ∷ []) fullShare) ⊛ ‵ ftrue) ⊛ ‵ (MutSlice (named 0) (α10-put-said ∷ []) Said′.the-row .own (record { ptr = (l10, 0); name = γ10-put-said; now = (said-at k) }) ((sliceVal (l10, 0) (length (said-at k))) ∷ []))) ((‵ (flft (α10-put-said ∷ []) fullShare) ⊛ ‵ ftrue) ⊛ ‵ (fsep (fsep (finally Said′.the-row γ10-put-said (is-put-said-array10 k)) (feq ℕ (length (is-put-said-array10 k)) (length (said-at k)))) (fsep ftrue (fsep ftrue ftrue)))) (a-unit .val tt) _ (asks-put-said k l10 α10-put-said γ10-put-said (refl, below k n low (n-fine .1)) t-said-in) (gives-put-said k l10 α10-put-said γ10-put-said) (and-then ! (load ! (from ! (stop !)) (look ! 6 refl)) (and-then ! (load ! (from ! (stop !)) (look ! 60 refl)) (and-then ! (load ! (from ! (stop !)) (look ! 50 refl)) (no-more !)))) (λ t-put-said.
-          land ! (from ! (stop !)) (init ! 10 refl (a-unit .lawful 𝓤 H A W .typed tt _ t-put-said .0)) $
-          split ! $ split ! $ lft-end ! tt $ move ! (1 ∷ []) $ drop ! $ move ! (1 ∷ []) $ fsplit ! $ fsplit ! $ move ! (1 ∷ []) $ feqL ! (λ len-array10-put-said. move ! (1 ∷ []) $ fsplit ! $ drop ! $ fsplit ! $ drop ! $ drop ! $
-          move ! (1 ∷ 2 ∷ 0 ∷ []) $ use3 W (later (‵ (row Said′.the-row fullShare (is-put-said-array10 k) l10 0))) (array-comes-back 𝓤 H A W a-Said 256 (α10-put-said ∷ []) γ10-put-said (length (said-at k)) (is-put-said-array10 k) l10) $ await ! tt $ use1 W (given (Fine (known-array a-Said 256) (is-put-said-array10 k)) (‵ (fat fullShare ty10 l10 0 ((known-array a-Said 256) .val (is-put-said-array10 k))))) (array-back 𝓤 H A W a-Said 256 (is-put-said-array10 k) l10 (len-array10-put-said ∙ (f-said .1 .0 .1))) $ learn ! (λ ok-array10-put-said.
+          calls-with ! fm (Says-put-output 𝓤 H A at-mem run) known-put-output (to-put-output k l11 α11-put-output γ11-put-output) ((‵ (flft (α11-put-output ∷ []) fullShare) ⊛ ‵ ftrue) ⊛ ‵ (MutSlice (named 0) (α11-put-output ∷ []) Output′.the-row .own (record { ptr = (l11, 0); name = γ11-put-output; now = (outputs-at k) }) ((sliceVal (l11, 0) (length (outputs-at k))) ∷ []))) ((‵ (flft (α11-put-output ∷ []) fullShare) ⊛ ‵ ftrue) ⊛ ‵ (fsep (fsep (finally Output′.the-row γ11-put-output (is-put-output-array11 k)) (feq ℕ (length (is-put-output-array11 k)) (length (outputs-at k)))) (fsep ftrue (fsep ftrue ftrue)))) (a-unit .val tt) _ (asks-put-output k l11 α11-put-output γ11-put-output (refl, below k n low (n-fine .1)) t-output-by) (gives-put-output k l11 α11-put-output γ11-put-output) (and-then ! (load ! (from ! (stop !)) (look ! 6 refl)) (and-then ! (load ! (from ! (stop !)) (look ! 64 refl)) (and-then ! (load ! (from ! (stop !)) (look ! 50 refl)) (no-more !)))) (λ t-put-output.
+          land ! (from ! (stop !)) (init ! 10 refl (a-unit .lawful 𝓤 H A W .typed tt _ t-put-output .0)) $
+          split ! $ split ! $ lft-end ! tt $ move ! (1 ∷ []) $ drop ! $ move ! (1 ∷ []) $ fsplit ! $ fsplit ! $ move ! (1 ∷ []) $ feqL ! (λ len-array11-put-output. move ! (1 ∷ []) $ fsplit ! $ drop ! $ fsplit ! $ drop ! $ drop ! $
+          move ! (1 ∷ 2 ∷ 0 ∷ []) $ use3 W (later (‵ (row Output′.the-row fullShare (is-put-output-array11 k) l11 0))) (array-comes-back 𝓤 H A W a-Output 256 (α11-put-output ∷ []) γ11-put-output (length (outputs-at k)) (is-put-output-array11 k) l11) $ await ! tt $ use1 W (given (Fine (known-array a-Output 256) (is-put-output-array11 k)) (‵ (fat fullShare ty11 l11 0 ((known-array a-Output 256) .val (is-put-output-array11 k))))) (array-back 𝓤 H A W a-Output 256 (is-put-output-array11 k) l11 (len-array11-put-output ∙ (f-outputs .1 .0 .1))) $ learn ! (λ ok-array11-put-output.
           forget ! 5 refl $ forget ! 7 refl $
-          calls-value ! fm (Says-state-in 𝓤 H A at-mem run) known-state-in (to-state-in k) (a-State .val (is-state-in k)) _ (asks-state-in k t-answer) (gives-state-in k) (and-then ! (load ! (from ! (stop !)) (look ! 52 refl)) (no-more !)) (λ t-state-in.
-          land ! (from ! (stop !)) (store ! 65 refl (a-State .lawful 𝓤 H A W .typed (is-state-in k) _ t-state-in .0)) $
-          turn-ends n-fine k low f-s f-archive f-log f-audit f-said less t-fetch-order ok-array4-fetch-order t-command-in t-shown ok-array7-shown ok-array8-shown ok-array9-shown t-answer ok-array7-answer ok-array8-answer ok-array9-answer t-said-in t-put-said ok-array10-put-said t-state-in))))))
+          calls-value ! fm (Says-state-in 𝓤 H A at-mem run) known-state-in (to-state-in k) (a-State .val (is-state-in k)) _ (asks-state-in k t-answered-in) (gives-state-in k) (and-then ! (load ! (from ! (stop !)) (look ! 52 refl)) (no-more !)) (λ t-state-in.
+          land ! (from ! (stop !)) (store ! 71 refl (a-State .lawful 𝓤 H A W .typed (is-state-in k) _ t-state-in .0)) $
+          calls-value ! fm (Says-sound-by 𝓤 H A at-mem run) known-sound-by (to-sound-by k) (a-bool .val (is-sound-by k)) _ (asks-sound-by k t-entry-in f-sound) (gives-sound-by k) (and-then ! (load ! (from ! (stop !)) (look ! 60 refl)) (and-then ! (load ! (from ! (stop !)) (look ! 70 refl)) (no-more !))) (λ t-sound-by.
+          land ! (from ! (stop !)) (store ! 69 refl (a-bool .lawful 𝓤 H A W .typed (is-sound-by k) _ t-sound-by .0)) $
+          turn-ends n-fine k low f-s f-sound f-archive f-log f-audit f-outputs less t-fetch-input ok-array4-fetch-input t-entry-in t-command-in t-seen ok-array8-seen ok-array9-seen ok-array10-seen t-answer ok-array8-answer ok-array9-answer ok-array10-answer t-answered-in t-output-by t-put-output ok-array11-put-output t-state-in t-sound-by)))))))
 
-      turn-3 : (n-fine : Fine a-usize n) (k : ℕ) (low : k ≤ n) (f-s : Fine a-State (s-at k)) (f-archive : Fine (known-array a-ArchiveLine 15) (archive-at k)) (f-log : Fine (known-array a-LogLine 250) (log-at k)) (f-audit : Fine (known-array a-AuditLine 200) (audit-at k)) (f-said : Fine (known-array a-Said 256) (said-at k)) (less : T (ltb k n)) (t-fetch-order : Fine a-Order (is-fetch-order k)) (ok-array4-fetch-order : Fine (known-array a-Order 256) orders) (t-command-in : Fine a-Command (is-command-in k)) (t-shown : Fine a-Reply (is-shown k)) (ok-array7-shown : Fine (known-array a-ArchiveLine 15) (archive-at k)) (ok-array8-shown : Fine (known-array a-LogLine 250) (log-at k)) (ok-array9-shown : Fine (known-array a-AuditLine 200) (audit-at k)) → Sq W (‵ (fat fullShare ty9 l9 0 ((known-array a-AuditLine 200) .val (audit-at k))) ∷ ‵ (fat fullShare ty8 l8 0 ((known-array a-LogLine 250) .val (log-at k))) ∷ ‵ (fat fullShare ty7 l7 0 ((known-array a-ArchiveLine 15) .val (archive-at k))) ∷ ‵ (fat fullShare ty4 l4 0 ((known-array a-Order 256) .val orders)) ∷ ‵ (froom ty38 l38 0) ∷ ‵ (fdies ty38 l38) ∷ ‵ (froom ty37 l37 0) ∷ ‵ (fdies ty37 l37) ∷ ‵ (froom ty36 l36 0) ∷ ‵ (fdies ty36 l36) ∷ ‵ (froom ty35 l35 0) ∷ ‵ (fdies ty35 l35) ∷ ‵ (froom ty34 l34 0) ∷ ‵ (fdies ty34 l34) ∷ ‵ (froom ty33 l33 0) ∷ ‵ (fdies ty33 l33) ∷ ‵ (froom ty32 l32 0) ∷ ‵ (fdies ty32 l32) ∷ ‵ (froom ty31 l31 0) ∷ ‵ (fdies ty31 l31) ∷ ‵ (froom ty30 l30 0) ∷ ‵ (fdies ty30 l30) ∷ ‵ (froom ty29 l29 0) ∷ ‵ (fdies ty29 l29) ∷ ‵ (froom ty28 l28 0) ∷ ‵ (fdies ty28 l28) ∷ ‵ (froom ty27 l27 0) ∷ ‵ (fdies ty27 l27) ∷ ‵ (froom ty26 l26 0) ∷ ‵ (fdies ty26 l26) ∷ ‵ (froom ty25 l25 0) ∷ ‵ (fdies ty25 l25) ∷ ‵ (froom ty24 l24 0) ∷ ‵ (fdies ty24 l24) ∷ ‵ (froom ty23 l23 0) ∷ ‵ (fdies ty23 l23) ∷ ‵ (froom ty22 l22 0) ∷ ‵ (fdies ty22 l22) ∷ ‵ (froom ty21 l21 0) ∷ ‵ (fdies ty21 l21) ∷ ‵ (froom ty20 l20 0) ∷ ‵ (fdies ty20 l20) ∷ ‵ (froom ty19 l19 0) ∷ ‵ (fdies ty19 l19) ∷ ‵ (froom ty18 l18 0) ∷ ‵ (fdies ty18 l18) ∷ ‵ (froom ty17 l17 0) ∷ ‵ (fdies ty17 l17) ∷ ‵ (froom ty16 l16 0) ∷ ‵ (fdies ty16 l16) ∷ ‵ (froom ty15 l15 0) ∷ ‵ (fdies ty15 l15) ∷ ‵ (fat fullShare ty14 l14 0 (a-Reply .val (is-shown k))) ∷ ‵ (fdies ty14 l14) ∷ ‵ (fat fullShare ty13 l13 0 (a-Command .val (is-command-in k))) ∷ ‵ (fdies ty13 l13) ∷ ‵ (fat fullShare ty12 l12 0 (a-Order .val (is-fetch-order k))) ∷ ‵ (fdies ty12 l12) ∷ ‵ (fat fullShare ty11 l11 0 (a-usize .val k)) ∷ ‵ (fdies ty11 l11) ∷ ‵ (fat fullShare ty10 l10 0 ((known-array a-Said 256) .val (said-at k))) ∷ ‵ (fdies ty10 l10) ∷ ‵ (fdies ty9 l9) ∷ ‵ (fdies ty8 l8) ∷ ‵ (fdies ty7 l7) ∷ ‵ (fat fullShare ty6 l6 0 (a-State .val (s-at k))) ∷ ‵ (fdies ty6 l6) ∷ ‵ (fat fullShare ty5 l5 0 (a-usize .val n)) ∷ ‵ (fdies ty5 l5) ∷ ‵ (fdies ty4 l4) ∷ ‵ (froom ty3 l3 0) ∷ ‵ (fdies ty3 l3) ∷ ‵ (froom ty2 l2 0) ∷ ‵ (fdies ty2 l2) ∷ ‵ (froom ty1 l1 0) ∷ ‵ (fdies ty1 l1) ∷ ‵ (froom ty0 l0 0) ∷ ‵ (fdies ty0 l0) ∷ []) (runs (𝓣 .C) (𝓣 .Λ) E (rest-of (rest-of (rest-of (rest-of (rest-of (rest-of (rest-of (rest-of (rest-of (rest-of (rest-of (rest-of (rest-of (M.turn-1)))))))))))))) (anyQ (Turned (k, (low, (f-s, (f-archive, (f-log, (f-audit, f-said)))))))))
-      turn-3 n-fine k low f-s f-archive f-log f-audit f-said less t-fetch-order ok-array4-fetch-order t-command-in t-shown ok-array7-shown ok-array8-shown ok-array9-shown =
+      turn-3 : (n-fine : Fine a-usize n) (k : ℕ) (low : k ≤ n) (f-s : Fine a-State (s-at k)) (f-sound : Fine a-bool (sound-at k)) (f-archive : Fine (known-array a-ArchiveLine 15) (archive-at k)) (f-log : Fine (known-array a-LogLine 250) (log-at k)) (f-audit : Fine (known-array a-AuditLine 200) (audit-at k)) (f-outputs : Fine (known-array a-Output 256) (outputs-at k)) (less : T (ltb k n)) (t-fetch-input : Fine a-Input (is-fetch-input k)) (ok-array4-fetch-input : Fine (known-array a-Input 256) inputs) (t-entry-in : Fine a-Entry (is-entry-in k)) (t-command-in : Fine a-Command (is-command-in k)) (t-seen : Fine a-Reply (is-seen k)) (ok-array8-seen : Fine (known-array a-ArchiveLine 15) (archive-at k)) (ok-array9-seen : Fine (known-array a-LogLine 250) (log-at k)) (ok-array10-seen : Fine (known-array a-AuditLine 200) (audit-at k)) → Sq W (‵ (fat fullShare ty10 l10 0 ((known-array a-AuditLine 200) .val (audit-at k))) ∷ ‵ (fat fullShare ty9 l9 0 ((known-array a-LogLine 250) .val (log-at k))) ∷ ‵ (fat fullShare ty8 l8 0 ((known-array a-ArchiveLine 15) .val (archive-at k))) ∷ ‵ (fat fullShare ty4 l4 0 ((known-array a-Input 256) .val inputs)) ∷ ‵ (froom ty41 l41 0) ∷ ‵ (fdies ty41 l41) ∷ ‵ (froom ty40 l40 0) ∷ ‵ (fdies ty40 l40) ∷ ‵ (froom ty39 l39 0) ∷ ‵ (fdies ty39 l39) ∷ ‵ (froom ty38 l38 0) ∷ ‵ (fdies ty38 l38) ∷ ‵ (froom ty37 l37 0) ∷ ‵ (fdies ty37 l37) ∷ ‵ (froom ty36 l36 0) ∷ ‵ (fdies ty36 l36) ∷ ‵ (froom ty35 l35 0) ∷ ‵ (fdies ty35 l35) ∷ ‵ (froom ty34 l34 0) ∷ ‵ (fdies ty34 l34) ∷ ‵ (froom ty33 l33 0) ∷ ‵ (fdies ty33 l33) ∷ ‵ (froom ty32 l32 0) ∷ ‵ (fdies ty32 l32) ∷ ‵ (froom ty31 l31 0) ∷ ‵ (fdies ty31 l31) ∷ ‵ (froom ty30 l30 0) ∷ ‵ (fdies ty30 l30) ∷ ‵ (froom ty29 l29 0) ∷ ‵ (fdies ty29 l29) ∷ ‵ (froom ty28 l28 0) ∷ ‵ (fdies ty28 l28) ∷ ‵ (froom ty27 l27 0) ∷ ‵ (fdies ty27 l27) ∷ ‵ (froom ty26 l26 0) ∷ ‵ (fdies ty26 l26) ∷ ‵ (froom ty25 l25 0) ∷ ‵ (fdies ty25 l25) ∷ ‵ (froom ty24 l24 0) ∷ ‵ (fdies ty24 l24) ∷ ‵ (froom ty23 l23 0) ∷ ‵ (fdies ty23 l23) ∷ ‵ (froom ty22 l22 0) ∷ ‵ (fdies ty22 l22) ∷ ‵ (froom ty21 l21 0) ∷ ‵ (fdies ty21 l21) ∷ ‵ (froom ty20 l20 0) ∷ ‵ (fdies ty20 l20) ∷ ‵ (froom ty19 l19 0) ∷ ‵ (fdies ty19 l19) ∷ ‵ (froom ty18 l18 0) ∷ ‵ (fdies ty18 l18) ∷ ‵ (froom ty17 l17 0) ∷ ‵ (fdies ty17 l17) ∷ ‵ (fat fullShare ty16 l16 0 (a-Reply .val (is-seen k))) ∷ ‵ (fdies ty16 l16) ∷ ‵ (fat fullShare ty15 l15 0 (a-Command .val (is-command-in k))) ∷ ‵ (fdies ty15 l15) ∷ ‵ (fat fullShare ty14 l14 0 (a-Entry .val (is-entry-in k))) ∷ ‵ (fdies ty14 l14) ∷ ‵ (fat fullShare ty13 l13 0 (a-Input .val (is-fetch-input k))) ∷ ‵ (fdies ty13 l13) ∷ ‵ (fat fullShare ty12 l12 0 (a-usize .val k)) ∷ ‵ (fdies ty12 l12) ∷ ‵ (fat fullShare ty11 l11 0 ((known-array a-Output 256) .val (outputs-at k))) ∷ ‵ (fdies ty11 l11) ∷ ‵ (fdies ty10 l10) ∷ ‵ (fdies ty9 l9) ∷ ‵ (fdies ty8 l8) ∷ ‵ (fat fullShare ty7 l7 0 (a-bool .val (sound-at k))) ∷ ‵ (fdies ty7 l7) ∷ ‵ (fat fullShare ty6 l6 0 (a-State .val (s-at k))) ∷ ‵ (fdies ty6 l6) ∷ ‵ (fat fullShare ty5 l5 0 (a-usize .val n)) ∷ ‵ (fdies ty5 l5) ∷ ‵ (fdies ty4 l4) ∷ ‵ (froom ty3 l3 0) ∷ ‵ (fdies ty3 l3) ∷ ‵ (froom ty2 l2 0) ∷ ‵ (fdies ty2 l2) ∷ ‵ (froom ty1 l1 0) ∷ ‵ (fdies ty1 l1) ∷ ‵ (froom ty0 l0 0) ∷ ‵ (fdies ty0 l0) ∷ []) (runs (𝓣 .C) (𝓣 .Λ) E (rest-of (rest-of (rest-of (rest-of (rest-of (rest-of (rest-of (rest-of (rest-of (rest-of (rest-of (rest-of (rest-of (rest-of (M.turn-1))))))))))))))) (anyQ (Turned (k, (low, (f-s, (f-sound, (f-archive, (f-log, (f-audit, f-outputs))))))))))
+      turn-3 n-fine k low f-s f-sound f-archive f-log f-audit f-outputs less t-fetch-input ok-array4-fetch-input t-entry-in t-command-in t-seen ok-array8-seen ok-array9-seen ok-array10-seen =
           assigns ! (addr ! (from ! (stop !))) (from ! (stop !)) (init ! 20 refl (tt, tt)) $
           assigns ! (agg ! (and-then ! (load ! (from ! (stop !)) (look ! 20 refl)) (and-then ! (lit ! tt) (no-more !)))) (from ! (stop !)) (init ! 18 refl (tt, (tt, (record { fits = lit< tt }, tt)))) $
           assigns ! (addr ! (from ! (stop !))) (from ! (stop !)) (init ! 16 refl (tt, tt)) $
           assigns ! (agg ! (and-then ! (load ! (from ! (stop !)) (look ! 16 refl)) (and-then ! (lit ! tt) (no-more !)))) (from ! (stop !)) (init ! 14 refl (tt, (tt, (record { fits = lit< tt }, tt)))) $
           assigns ! (addr ! (from ! (stop !))) (from ! (stop !)) (init ! 12 refl (tt, tt)) $
           assigns ! (agg ! (and-then ! (load ! (from ! (stop !)) (look ! 12 refl)) (and-then ! (lit ! tt) (no-more !)))) (from ! (stop !)) (init ! 10 refl (tt, (tt, (record { fits = lit< tt }, tt)))) $
-          rewrite ! 18 (λ (m : ℕ). ‵ (fat fullShare ty31 l31 0 (sliceVal (l7, 0) m))) (sym (ok-array7-shown .1 .0 .1)) refl $
-          lft-new ! tt (λ α7-answer. has ! (known-array a-ArchiveLine 15) (archive-at k) ok-array7-shown $ move ! (4 ∷ 0 ∷ []) $ use2 W (later (some (λ (γ7-answer : GName). ‵ (MutSlice (named 0) (α7-answer ∷ []) ArchiveLine′.the-row .own (record { ptr = (l7, 0); name = γ7-answer; now = (archive-at k) }) ((sliceVal (l7, 0) (length (archive-at k))) ∷ [])) ⊛ ‵ (flent (α7-answer ∷ []) (Held ArchiveLine′.the-row (length (archive-at k)) l7 0 γ7-answer))))) (lends-array 𝓤 H A W a-ArchiveLine 15 tt (named 0) (α7-answer ∷ []) (archive-at k) ((known-array a-ArchiveLine 15) .val (archive-at k)) l7 (subst (Room ArchiveLine′.the-row) (sym (ok-array7-shown .1 .0 .1)) (lit< tt, lit< tt))) $ await ! tt $ pick ! (λ γ7-answer. split ! $
-          rewrite ! 16 (λ (m : ℕ). ‵ (fat fullShare ty33 l33 0 (sliceVal (l8, 0) m))) (sym (ok-array8-shown .1 .0 .1)) refl $
-          lft-new ! tt (λ α8-answer. has ! (known-array a-LogLine 250) (log-at k) ok-array8-shown $ move ! (6 ∷ 0 ∷ []) $ use2 W (later (some (λ (γ8-answer : GName). ‵ (MutSlice (named 1) (α8-answer ∷ []) LogLine′.the-row .own (record { ptr = (l8, 0); name = γ8-answer; now = (log-at k) }) ((sliceVal (l8, 0) (length (log-at k))) ∷ [])) ⊛ ‵ (flent (α8-answer ∷ []) (Held LogLine′.the-row (length (log-at k)) l8 0 γ8-answer))))) (lends-array 𝓤 H A W a-LogLine 250 tt (named 1) (α8-answer ∷ []) (log-at k) ((known-array a-LogLine 250) .val (log-at k)) l8 (subst (Room LogLine′.the-row) (sym (ok-array8-shown .1 .0 .1)) (lit< tt, lit< tt))) $ await ! tt $ pick ! (λ γ8-answer. split ! $
-          rewrite ! 14 (λ (m : ℕ). ‵ (fat fullShare ty35 l35 0 (sliceVal (l9, 0) m))) (sym (ok-array9-shown .1 .0 .1)) refl $
-          lft-new ! tt (λ α9-answer. has ! (known-array a-AuditLine 200) (audit-at k) ok-array9-shown $ move ! (8 ∷ 0 ∷ []) $ use2 W (later (some (λ (γ9-answer : GName). ‵ (MutSlice (named 2) (α9-answer ∷ []) AuditLine′.the-row .own (record { ptr = (l9, 0); name = γ9-answer; now = (audit-at k) }) ((sliceVal (l9, 0) (length (audit-at k))) ∷ [])) ⊛ ‵ (flent (α9-answer ∷ []) (Held AuditLine′.the-row (length (audit-at k)) l9 0 γ9-answer))))) (lends-array 𝓤 H A W a-AuditLine 200 tt (named 2) (α9-answer ∷ []) (audit-at k) ((known-array a-AuditLine 200) .val (audit-at k)) l9 (subst (Room AuditLine′.the-row) (sym (ok-array9-shown .1 .0 .1)) (lit< tt, lit< tt))) $ await ! tt $ pick ! (λ γ9-answer. split ! $
+          rewrite ! 18 (λ (m : ℕ). ‵ (fat fullShare ty34 l34 0 (sliceVal (l8, 0) m))) (sym (ok-array8-seen .1 .0 .1)) refl $
+          lft-new ! tt (λ α8-answer. has ! (known-array a-ArchiveLine 15) (archive-at k) ok-array8-seen $ move ! (4 ∷ 0 ∷ []) $ use2 W (later (some (λ (γ8-answer : GName). ‵ (MutSlice (named 0) (α8-answer ∷ []) ArchiveLine′.the-row .own (record { ptr = (l8, 0); name = γ8-answer; now = (archive-at k) }) ((sliceVal (l8, 0) (length (archive-at k))) ∷ [])) ⊛ ‵ (flent (α8-answer ∷ []) (Held ArchiveLine′.the-row (length (archive-at k)) l8 0 γ8-answer))))) (lends-array 𝓤 H A W a-ArchiveLine 15 tt (named 0) (α8-answer ∷ []) (archive-at k) ((known-array a-ArchiveLine 15) .val (archive-at k)) l8 (subst (Room ArchiveLine′.the-row) (sym (ok-array8-seen .1 .0 .1)) (lit< tt, lit< tt))) $ await ! tt $ pick ! (λ γ8-answer. split ! $
+          rewrite ! 16 (λ (m : ℕ). ‵ (fat fullShare ty36 l36 0 (sliceVal (l9, 0) m))) (sym (ok-array9-seen .1 .0 .1)) refl $
+          lft-new ! tt (λ α9-answer. has ! (known-array a-LogLine 250) (log-at k) ok-array9-seen $ move ! (6 ∷ 0 ∷ []) $ use2 W (later (some (λ (γ9-answer : GName). ‵ (MutSlice (named 1) (α9-answer ∷ []) LogLine′.the-row .own (record { ptr = (l9, 0); name = γ9-answer; now = (log-at k) }) ((sliceVal (l9, 0) (length (log-at k))) ∷ [])) ⊛ ‵ (flent (α9-answer ∷ []) (Held LogLine′.the-row (length (log-at k)) l9 0 γ9-answer))))) (lends-array 𝓤 H A W a-LogLine 250 tt (named 1) (α9-answer ∷ []) (log-at k) ((known-array a-LogLine 250) .val (log-at k)) l9 (subst (Room LogLine′.the-row) (sym (ok-array9-seen .1 .0 .1)) (lit< tt, lit< tt))) $ await ! tt $ pick ! (λ γ9-answer. split ! $
+          rewrite ! 14 (λ (m : ℕ). ‵ (fat fullShare ty38 l38 0 (sliceVal (l10, 0) m))) (sym (ok-array10-seen .1 .0 .1)) refl $
+          lft-new ! tt (λ α10-answer. has ! (known-array a-AuditLine 200) (audit-at k) ok-array10-seen $ move ! (8 ∷ 0 ∷ []) $ use2 W (later (some (λ (γ10-answer : GName). ‵ (MutSlice (named 2) (α10-answer ∷ []) AuditLine′.the-row .own (record { ptr = (l10, 0); name = γ10-answer; now = (audit-at k) }) ((sliceVal (l10, 0) (length (audit-at k))) ∷ [])) ⊛ ‵ (flent (α10-answer ∷ []) (Held AuditLine′.the-row (length (audit-at k)) l10 0 γ10-answer))))) (lends-array 𝓤 H A W a-AuditLine 200 tt (named 2) (α10-answer ∷ []) (audit-at k) ((known-array a-AuditLine 200) .val (audit-at k)) l10 (subst (Room AuditLine′.the-row) (sym (ok-array10-seen .1 .0 .1)) (lit< tt, lit< tt))) $ await ! tt $ pick ! (λ γ10-answer. split ! $
           nothing ! $ move ! (3 ∷ 0 ∷ []) $ join ! $ move ! (5 ∷ 0 ∷ []) $ join ! $ move ! (7 ∷ 0 ∷ []) $ join ! $ move ! (1 ∷ []) $ move ! (3 ∷ 0 ∷ []) $ join ! $ move ! (4 ∷ 0 ∷ []) $ join ! $ move ! (1 ∷ 0 ∷ []) $ join ! $
-          calls-with ! fm (Says-answer 𝓤 H A at-mem run) known-answer (to-answer k l7 α7-answer γ7-answer l8 α8-answer γ8-answer l9 α9-answer γ9-answer) ((‵ (flft (α7-answer ∷ []) fullShare) ⊛ (‵ (flft (α8-answer ∷ []) fullShare) ⊛ (‵ (flft (α9-answer ∷ []) fullShare) ⊛ ‵ ftrue))) ⊛ (‵ (MutSlice (named 0) (α7-answer ∷ []) ArchiveLine′.the-row .own (record { ptr = (l7, 0); name = γ7-answer; now = (archive-at k) }) ((sliceVal (l7, 0) (length (archive-at k))) ∷ [])) ⊛ (‵ (MutSlice (named 1) (α8-answer ∷ []) LogLine′.the-row .own (record { ptr = (l8, 0); name = γ8-answer; now = (log-at k) }) ((sliceVal (l8, 0) (length (log-at k))) ∷ [])) ⊛ ‵ (MutSlice (named 2) (α9-answer ∷ []) AuditLine′.the-row .own (record { ptr = (l9, 0); name = γ9-answer; now = (audit-at k) }) ((sliceVal (l9, 0) (length (audit-at k))) ∷ []))))) ((‵ (flft (α7-answer ∷ []) fullShare) ⊛ (‵ (flft (α8-answer ∷ []) fullShare) ⊛ (‵ (flft (α9-answer ∷ []) fullShare) ⊛ ‵ ftrue))) ⊛ ‵ (fsep ftrue (fsep ftrue (fsep ftrue (fsep (fsep (finally ArchiveLine′.the-row γ7-answer (is-answer-array7 k)) (feq ℕ (length (is-answer-array7 k)) (length (archive-at k)))) (fsep (fsep (finally LogLine′.the-row γ8-answer (is-answer-array8 k)) (feq ℕ (length (is-answer-array8 k)) (length (log-at k)))) (fsep (fsep (finally AuditLine′.the-row γ9-answer (is-answer-array9 k)) (feq ℕ (length (is-answer-array9 k)) (length (audit-at k)))) ftrue))))))) (a-Turn .val (is-answer k)) _ (asks-answer k l7 α7-answer γ7-answer l8 α8-answer γ8-answer l9 α9-answer γ9-answer f-s t-command-in t-shown) (gives-answer k l7 α7-answer γ7-answer l8 α8-answer γ8-answer l9 α9-answer γ9-answer) (and-then ! (load ! (from ! (stop !)) (look ! 66 refl)) (and-then ! (load ! (from ! (stop !)) (look ! 55 refl)) (and-then ! (load ! (from ! (stop !)) (look ! 53 refl)) (and-then ! (load ! (from ! (stop !)) (look ! 19 refl)) (and-then ! (load ! (from ! (stop !)) (look ! 15 refl)) (and-then ! (load ! (from ! (stop !)) (look ! 11 refl)) (no-more !))))))) (λ t-answer.
-          land ! (from ! (stop !)) (init ! 51 refl (a-Turn .lawful 𝓤 H A W .typed (is-answer k) _ t-answer .0)) $
-          split ! $ split ! $ lft-end ! tt $ move ! (1 ∷ []) $ split ! $ lft-end ! tt $ move ! (1 ∷ []) $ split ! $ lft-end ! tt $ move ! (1 ∷ []) $ drop ! $ move ! (3 ∷ []) $ fsplit ! $ drop ! $ fsplit ! $ drop ! $ fsplit ! $ drop ! $ fsplit ! $ fsplit ! $ move ! (1 ∷ []) $ feqL ! (λ len-array7-answer. move ! (1 ∷ []) $ fsplit ! $ fsplit ! $ move ! (1 ∷ []) $ feqL ! (λ len-array8-answer. move ! (1 ∷ []) $ fsplit ! $ fsplit ! $ move ! (1 ∷ []) $ feqL ! (λ len-array9-answer. move ! (1 ∷ []) $ drop ! $
-          move ! (5 ∷ 8 ∷ 2 ∷ []) $ use3 W (later (‵ (row ArchiveLine′.the-row fullShare (is-answer-array7 k) l7 0))) (array-comes-back 𝓤 H A W a-ArchiveLine 15 (α7-answer ∷ []) γ7-answer (length (archive-at k)) (is-answer-array7 k) l7) $ await ! tt $ use1 W (given (Fine (known-array a-ArchiveLine 15) (is-answer-array7 k)) (‵ (fat fullShare ty7 l7 0 ((known-array a-ArchiveLine 15) .val (is-answer-array7 k))))) (array-back 𝓤 H A W a-ArchiveLine 15 (is-answer-array7 k) l7 (len-array7-answer ∙ (ok-array7-shown .1 .0 .1))) $ learn ! (λ ok-array7-answer.
-          move ! (4 ∷ 6 ∷ 2 ∷ []) $ use3 W (later (‵ (row LogLine′.the-row fullShare (is-answer-array8 k) l8 0))) (array-comes-back 𝓤 H A W a-LogLine 250 (α8-answer ∷ []) γ8-answer (length (log-at k)) (is-answer-array8 k) l8) $ await ! tt $ use1 W (given (Fine (known-array a-LogLine 250) (is-answer-array8 k)) (‵ (fat fullShare ty8 l8 0 ((known-array a-LogLine 250) .val (is-answer-array8 k))))) (array-back 𝓤 H A W a-LogLine 250 (is-answer-array8 k) l8 (len-array8-answer ∙ (ok-array8-shown .1 .0 .1))) $ learn ! (λ ok-array8-answer.
-          move ! (3 ∷ 4 ∷ 2 ∷ []) $ use3 W (later (‵ (row AuditLine′.the-row fullShare (is-answer-array9 k) l9 0))) (array-comes-back 𝓤 H A W a-AuditLine 200 (α9-answer ∷ []) γ9-answer (length (audit-at k)) (is-answer-array9 k) l9) $ await ! tt $ use1 W (given (Fine (known-array a-AuditLine 200) (is-answer-array9 k)) (‵ (fat fullShare ty9 l9 0 ((known-array a-AuditLine 200) .val (is-answer-array9 k))))) (array-back 𝓤 H A W a-AuditLine 200 (is-answer-array9 k) l9 (len-array9-answer ∙ (ok-array9-shown .1 .0 .1))) $ learn ! (λ ok-array9-answer.
+          calls-with ! fm (Says-answer 𝓤 H A at-mem run) known-answer (to-answer k l8 α8-answer γ8-answer l9 α9-answer γ9-answer l10 α10-answer γ10-answer) ((‵ (flft (α8-answer ∷ []) fullShare) ⊛ (‵ (flft (α9-answer ∷ []) fullShare) ⊛ (‵ (flft (α10-answer ∷ []) fullShare) ⊛ ‵ ftrue))) ⊛ (‵ (MutSlice (named 0) (α8-answer ∷ []) ArchiveLine′.the-row .own (record { ptr = (l8, 0); name = γ8-answer; now = (archive-at k) }) ((sliceVal (l8, 0) (length (archive-at k))) ∷ [])) ⊛ (‵ (MutSlice (named 1) (α9-answer ∷ []) LogLine′.the-row .own (record { ptr = (l9, 0); name = γ9-answer; now = (log-at k) }) ((sliceVal (l9, 0) (length (log-at k))) ∷ [])) ⊛ ‵ (MutSlice (named 2) (α10-answer ∷ []) AuditLine′.the-row .own (record { ptr = (l10, 0); name = γ10-answer; now = (audit-at k) }) ((sliceVal (l10, 0) (length (audit-at k))) ∷ []))))) ((‵ (flft (α8-answer ∷ []) fullShare) ⊛ (‵ (flft (α9-answer ∷ []) fullShare) ⊛ (‵ (flft (α10-answer ∷ []) fullShare) ⊛ ‵ ftrue))) ⊛ ‵ (fsep ftrue (fsep ftrue (fsep ftrue (fsep ftrue (fsep (fsep (finally ArchiveLine′.the-row γ8-answer (is-answer-array8 k)) (feq ℕ (length (is-answer-array8 k)) (length (archive-at k)))) (fsep (fsep (finally LogLine′.the-row γ9-answer (is-answer-array9 k)) (feq ℕ (length (is-answer-array9 k)) (length (log-at k)))) (fsep (fsep (finally AuditLine′.the-row γ10-answer (is-answer-array10 k)) (feq ℕ (length (is-answer-array10 k)) (length (audit-at k)))) ftrue)))))))) (a-Answer .val (is-answer k)) _ (asks-answer k l8 α8-answer γ8-answer l9 α9-answer γ9-answer l10 α10-answer γ10-answer f-s f-sound t-command-in t-seen) (gives-answer k l8 α8-answer γ8-answer l9 α9-answer γ9-answer l10 α10-answer γ10-answer) (and-then ! (load ! (from ! (stop !)) (look ! 72 refl)) (and-then ! (load ! (from ! (stop !)) (look ! 70 refl)) (and-then ! (load ! (from ! (stop !)) (look ! 57 refl)) (and-then ! (load ! (from ! (stop !)) (look ! 55 refl)) (and-then ! (load ! (from ! (stop !)) (look ! 19 refl)) (and-then ! (load ! (from ! (stop !)) (look ! 15 refl)) (and-then ! (load ! (from ! (stop !)) (look ! 11 refl)) (no-more !)))))))) (λ t-answer.
+          land ! (from ! (stop !)) (init ! 53 refl (a-Answer .lawful 𝓤 H A W .typed (is-answer k) _ t-answer .0)) $
+          split ! $ split ! $ lft-end ! tt $ move ! (1 ∷ []) $ split ! $ lft-end ! tt $ move ! (1 ∷ []) $ split ! $ lft-end ! tt $ move ! (1 ∷ []) $ drop ! $ move ! (3 ∷ []) $ fsplit ! $ drop ! $ fsplit ! $ drop ! $ fsplit ! $ drop ! $ fsplit ! $ drop ! $ fsplit ! $ fsplit ! $ move ! (1 ∷ []) $ feqL ! (λ len-array8-answer. move ! (1 ∷ []) $ fsplit ! $ fsplit ! $ move ! (1 ∷ []) $ feqL ! (λ len-array9-answer. move ! (1 ∷ []) $ fsplit ! $ fsplit ! $ move ! (1 ∷ []) $ feqL ! (λ len-array10-answer. move ! (1 ∷ []) $ drop ! $
+          move ! (5 ∷ 8 ∷ 2 ∷ []) $ use3 W (later (‵ (row ArchiveLine′.the-row fullShare (is-answer-array8 k) l8 0))) (array-comes-back 𝓤 H A W a-ArchiveLine 15 (α8-answer ∷ []) γ8-answer (length (archive-at k)) (is-answer-array8 k) l8) $ await ! tt $ use1 W (given (Fine (known-array a-ArchiveLine 15) (is-answer-array8 k)) (‵ (fat fullShare ty8 l8 0 ((known-array a-ArchiveLine 15) .val (is-answer-array8 k))))) (array-back 𝓤 H A W a-ArchiveLine 15 (is-answer-array8 k) l8 (len-array8-answer ∙ (ok-array8-seen .1 .0 .1))) $ learn ! (λ ok-array8-answer.
+          move ! (4 ∷ 6 ∷ 2 ∷ []) $ use3 W (later (‵ (row LogLine′.the-row fullShare (is-answer-array9 k) l9 0))) (array-comes-back 𝓤 H A W a-LogLine 250 (α9-answer ∷ []) γ9-answer (length (log-at k)) (is-answer-array9 k) l9) $ await ! tt $ use1 W (given (Fine (known-array a-LogLine 250) (is-answer-array9 k)) (‵ (fat fullShare ty9 l9 0 ((known-array a-LogLine 250) .val (is-answer-array9 k))))) (array-back 𝓤 H A W a-LogLine 250 (is-answer-array9 k) l9 (len-array9-answer ∙ (ok-array9-seen .1 .0 .1))) $ learn ! (λ ok-array9-answer.
+          move ! (3 ∷ 4 ∷ 2 ∷ []) $ use3 W (later (‵ (row AuditLine′.the-row fullShare (is-answer-array10 k) l10 0))) (array-comes-back 𝓤 H A W a-AuditLine 200 (α10-answer ∷ []) γ10-answer (length (audit-at k)) (is-answer-array10 k) l10) $ await ! tt $ use1 W (given (Fine (known-array a-AuditLine 200) (is-answer-array10 k)) (‵ (fat fullShare ty10 l10 0 ((known-array a-AuditLine 200) .val (is-answer-array10 k))))) (array-back 𝓤 H A W a-AuditLine 200 (is-answer-array10 k) l10 (len-array10-answer ∙ (ok-array10-seen .1 .0 .1))) $ learn ! (λ ok-array10-answer.
           forget ! 10 refl $ forget ! 12 refl $ forget ! 14 refl $ forget ! 16 refl $ forget ! 18 refl $ forget ! 20 refl $
-          calls-value ! fm (Says-said-in 𝓤 H A at-mem run) known-said-in (to-said-in k) (a-Said .val (is-said-in k)) _ (asks-said-in k t-answer) (gives-said-in k) (and-then ! (load ! (from ! (stop !)) (look ! 51 refl)) (no-more !)) (λ t-said-in.
-          land ! (from ! (stop !)) (init ! 48 refl (a-Said .lawful 𝓤 H A W .typed (is-said-in k) _ t-said-in .0)) $
-          turn-4 n-fine k low f-s f-archive f-log f-audit f-said less t-fetch-order ok-array4-fetch-order t-command-in t-shown ok-array7-shown ok-array8-shown ok-array9-shown t-answer ok-array7-answer ok-array8-answer ok-array9-answer t-said-in))))))))))))))
+          calls-value ! fm (Says-answered-in 𝓤 H A at-mem run) known-answered-in (to-answered-in k) (a-Answer .val (is-answered-in k)) _ (asks-answered-in k t-entry-in t-answer) (gives-answered-in k) (and-then ! (load ! (from ! (stop !)) (look ! 59 refl)) (and-then ! (load ! (from ! (stop !)) (look ! 53 refl)) (no-more !))) (λ t-answered-in.
+          land ! (from ! (stop !)) (init ! 50 refl (a-Answer .lawful 𝓤 H A W .typed (is-answered-in k) _ t-answered-in .0)) $
+          calls-value ! fm (Says-output-by 𝓤 H A at-mem run) known-output-by (to-output-by k) (a-Output .val (is-output-by k)) _ (asks-output-by k t-entry-in t-answered-in) (gives-output-by k) (and-then ! (load ! (from ! (stop !)) (look ! 59 refl)) (and-then ! (load ! (from ! (stop !)) (look ! 51 refl)) (no-more !))) (λ t-output-by.
+          land ! (from ! (stop !)) (init ! 48 refl (a-Output .lawful 𝓤 H A W .typed (is-output-by k) _ t-output-by .0)) $
+          turn-4 n-fine k low f-s f-sound f-archive f-log f-audit f-outputs less t-fetch-input ok-array4-fetch-input t-entry-in t-command-in t-seen ok-array8-seen ok-array9-seen ok-array10-seen t-answer ok-array8-answer ok-array9-answer ok-array10-answer t-answered-in t-output-by)))))))))))))))
 
-      turn-2 : (n-fine : Fine a-usize n) (k : ℕ) (low : k ≤ n) (f-s : Fine a-State (s-at k)) (f-archive : Fine (known-array a-ArchiveLine 15) (archive-at k)) (f-log : Fine (known-array a-LogLine 250) (log-at k)) (f-audit : Fine (known-array a-AuditLine 200) (audit-at k)) (f-said : Fine (known-array a-Said 256) (said-at k)) (less : T (ltb k n)) (t-fetch-order : Fine a-Order (is-fetch-order k)) (ok-array4-fetch-order : Fine (known-array a-Order 256) orders) (t-command-in : Fine a-Command (is-command-in k)) → Sq W (‵ (fat fullShare ty4 l4 0 ((known-array a-Order 256) .val orders)) ∷ ‵ (froom ty38 l38 0) ∷ ‵ (fdies ty38 l38) ∷ ‵ (froom ty37 l37 0) ∷ ‵ (fdies ty37 l37) ∷ ‵ (froom ty36 l36 0) ∷ ‵ (fdies ty36 l36) ∷ ‵ (froom ty35 l35 0) ∷ ‵ (fdies ty35 l35) ∷ ‵ (froom ty34 l34 0) ∷ ‵ (fdies ty34 l34) ∷ ‵ (froom ty33 l33 0) ∷ ‵ (fdies ty33 l33) ∷ ‵ (froom ty32 l32 0) ∷ ‵ (fdies ty32 l32) ∷ ‵ (froom ty31 l31 0) ∷ ‵ (fdies ty31 l31) ∷ ‵ (froom ty30 l30 0) ∷ ‵ (fdies ty30 l30) ∷ ‵ (froom ty29 l29 0) ∷ ‵ (fdies ty29 l29) ∷ ‵ (froom ty28 l28 0) ∷ ‵ (fdies ty28 l28) ∷ ‵ (froom ty27 l27 0) ∷ ‵ (fdies ty27 l27) ∷ ‵ (froom ty26 l26 0) ∷ ‵ (fdies ty26 l26) ∷ ‵ (froom ty25 l25 0) ∷ ‵ (fdies ty25 l25) ∷ ‵ (froom ty24 l24 0) ∷ ‵ (fdies ty24 l24) ∷ ‵ (froom ty23 l23 0) ∷ ‵ (fdies ty23 l23) ∷ ‵ (froom ty22 l22 0) ∷ ‵ (fdies ty22 l22) ∷ ‵ (froom ty21 l21 0) ∷ ‵ (fdies ty21 l21) ∷ ‵ (froom ty20 l20 0) ∷ ‵ (fdies ty20 l20) ∷ ‵ (froom ty19 l19 0) ∷ ‵ (fdies ty19 l19) ∷ ‵ (froom ty18 l18 0) ∷ ‵ (fdies ty18 l18) ∷ ‵ (froom ty17 l17 0) ∷ ‵ (fdies ty17 l17) ∷ ‵ (froom ty16 l16 0) ∷ ‵ (fdies ty16 l16) ∷ ‵ (froom ty15 l15 0) ∷ ‵ (fdies ty15 l15) ∷ ‵ (froom ty14 l14 0) ∷ ‵ (fdies ty14 l14) ∷ ‵ (fat fullShare ty13 l13 0 (a-Command .val (is-command-in k))) ∷ ‵ (fdies ty13 l13) ∷ ‵ (fat fullShare ty12 l12 0 (a-Order .val (is-fetch-order k))) ∷ ‵ (fdies ty12 l12) ∷ ‵ (fat fullShare ty11 l11 0 (a-usize .val k)) ∷ ‵ (fdies ty11 l11) ∷ ‵ (fat fullShare ty10 l10 0 ((known-array a-Said 256) .val (said-at k))) ∷ ‵ (fdies ty10 l10) ∷ ‵ (fat fullShare ty9 l9 0 ((known-array a-AuditLine 200) .val (audit-at k))) ∷ ‵ (fdies ty9 l9) ∷ ‵ (fat fullShare ty8 l8 0 ((known-array a-LogLine 250) .val (log-at k))) ∷ ‵ (fdies ty8 l8) ∷ ‵ (fat fullShare ty7 l7 0 ((known-array a-ArchiveLine 15) .val (archive-at k))) ∷ ‵ (fdies ty7 l7) ∷ ‵ (fat fullShare ty6 l6 0 (a-State .val (s-at k))) ∷ ‵ (fdies ty6 l6) ∷ ‵ (fat fullShare ty5 l5 0 (a-usize .val n)) ∷ ‵ (fdies ty5 l5) ∷ ‵ (fdies ty4 l4) ∷ ‵ (froom ty3 l3 0) ∷ ‵ (fdies ty3 l3) ∷ ‵ (froom ty2 l2 0) ∷ ‵ (fdies ty2 l2) ∷ ‵ (froom ty1 l1 0) ∷ ‵ (fdies ty1 l1) ∷ ‵ (froom ty0 l0 0) ∷ ‵ (fdies ty0 l0) ∷ []) (runs (𝓣 .C) (𝓣 .Λ) E (rest-of (rest-of (rest-of (rest-of (rest-of (rest-of (M.turn-1))))))) (anyQ (Turned (k, (low, (f-s, (f-archive, (f-log, (f-audit, f-said)))))))))
-      turn-2 n-fine k low f-s f-archive f-log f-audit f-said less t-fetch-order ok-array4-fetch-order t-command-in =
+      turn-2 : (n-fine : Fine a-usize n) (k : ℕ) (low : k ≤ n) (f-s : Fine a-State (s-at k)) (f-sound : Fine a-bool (sound-at k)) (f-archive : Fine (known-array a-ArchiveLine 15) (archive-at k)) (f-log : Fine (known-array a-LogLine 250) (log-at k)) (f-audit : Fine (known-array a-AuditLine 200) (audit-at k)) (f-outputs : Fine (known-array a-Output 256) (outputs-at k)) (less : T (ltb k n)) (t-fetch-input : Fine a-Input (is-fetch-input k)) (ok-array4-fetch-input : Fine (known-array a-Input 256) inputs) (t-entry-in : Fine a-Entry (is-entry-in k)) (t-command-in : Fine a-Command (is-command-in k)) → Sq W (‵ (fat fullShare ty4 l4 0 ((known-array a-Input 256) .val inputs)) ∷ ‵ (froom ty41 l41 0) ∷ ‵ (fdies ty41 l41) ∷ ‵ (froom ty40 l40 0) ∷ ‵ (fdies ty40 l40) ∷ ‵ (froom ty39 l39 0) ∷ ‵ (fdies ty39 l39) ∷ ‵ (froom ty38 l38 0) ∷ ‵ (fdies ty38 l38) ∷ ‵ (froom ty37 l37 0) ∷ ‵ (fdies ty37 l37) ∷ ‵ (froom ty36 l36 0) ∷ ‵ (fdies ty36 l36) ∷ ‵ (froom ty35 l35 0) ∷ ‵ (fdies ty35 l35) ∷ ‵ (froom ty34 l34 0) ∷ ‵ (fdies ty34 l34) ∷ ‵ (froom ty33 l33 0) ∷ ‵ (fdies ty33 l33) ∷ ‵ (froom ty32 l32 0) ∷ ‵ (fdies ty32 l32) ∷ ‵ (froom ty31 l31 0) ∷ ‵ (fdies ty31 l31) ∷ ‵ (froom ty30 l30 0) ∷ ‵ (fdies ty30 l30) ∷ ‵ (froom ty29 l29 0) ∷ ‵ (fdies ty29 l29) ∷ ‵ (froom ty28 l28 0) ∷ ‵ (fdies ty28 l28) ∷ ‵ (froom ty27 l27 0) ∷ ‵ (fdies ty27 l27) ∷ ‵ (froom ty26 l26 0) ∷ ‵ (fdies ty26 l26) ∷ ‵ (froom ty25 l25 0) ∷ ‵ (fdies ty25 l25) ∷ ‵ (froom ty24 l24 0) ∷ ‵ (fdies ty24 l24) ∷ ‵ (froom ty23 l23 0) ∷ ‵ (fdies ty23 l23) ∷ ‵ (froom ty22 l22 0) ∷ ‵ (fdies ty22 l22) ∷ ‵ (froom ty21 l21 0) ∷ ‵ (fdies ty21 l21) ∷ ‵ (froom ty20 l20 0) ∷ ‵ (fdies ty20 l20) ∷ ‵ (froom ty19 l19 0) ∷ ‵ (fdies ty19 l19) ∷ ‵ (froom ty18 l18 0) ∷ ‵ (fdies ty18 l18) ∷ ‵ (froom ty17 l17 0) ∷ ‵ (fdies ty17 l17) ∷ ‵ (froom ty16 l16 0) ∷ ‵ (fdies ty16 l16) ∷ ‵ (fat fullShare ty15 l15 0 (a-Command .val (is-command-in k))) ∷ ‵ (fdies ty15 l15) ∷ ‵ (fat fullShare ty14 l14 0 (a-Entry .val (is-entry-in k))) ∷ ‵ (fdies ty14 l14) ∷ ‵ (fat fullShare ty13 l13 0 (a-Input .val (is-fetch-input k))) ∷ ‵ (fdies ty13 l13) ∷ ‵ (fat fullShare ty12 l12 0 (a-usize .val k)) ∷ ‵ (fdies ty12 l12) ∷ ‵ (fat fullShare ty11 l11 0 ((known-array a-Output 256) .val (outputs-at k))) ∷ ‵ (fdies ty11 l11) ∷ ‵ (fat fullShare ty10 l10 0 ((known-array a-AuditLine 200) .val (audit-at k))) ∷ ‵ (fdies ty10 l10) ∷ ‵ (fat fullShare ty9 l9 0 ((known-array a-LogLine 250) .val (log-at k))) ∷ ‵ (fdies ty9 l9) ∷ ‵ (fat fullShare ty8 l8 0 ((known-array a-ArchiveLine 15) .val (archive-at k))) ∷ ‵ (fdies ty8 l8) ∷ ‵ (fat fullShare ty7 l7 0 (a-bool .val (sound-at k))) ∷ ‵ (fdies ty7 l7) ∷ ‵ (fat fullShare ty6 l6 0 (a-State .val (s-at k))) ∷ ‵ (fdies ty6 l6) ∷ ‵ (fat fullShare ty5 l5 0 (a-usize .val n)) ∷ ‵ (fdies ty5 l5) ∷ ‵ (fdies ty4 l4) ∷ ‵ (froom ty3 l3 0) ∷ ‵ (fdies ty3 l3) ∷ ‵ (froom ty2 l2 0) ∷ ‵ (fdies ty2 l2) ∷ ‵ (froom ty1 l1 0) ∷ ‵ (fdies ty1 l1) ∷ ‵ (froom ty0 l0 0) ∷ ‵ (fdies ty0 l0) ∷ []) (runs (𝓣 .C) (𝓣 .Λ) E (rest-of (rest-of (rest-of (rest-of (rest-of (rest-of (rest-of (M.turn-1)))))))) (anyQ (Turned (k, (low, (f-s, (f-sound, (f-archive, (f-log, (f-audit, f-outputs))))))))))
+      turn-2 n-fine k low f-s f-sound f-archive f-log f-audit f-outputs less t-fetch-input ok-array4-fetch-input t-entry-in t-command-in =
           assigns ! (addr ! (from ! (stop !))) (from ! (stop !)) (init ! 29 refl (tt, tt)) $
           assigns ! (agg ! (and-then ! (load ! (from ! (stop !)) (look ! 29 refl)) (and-then ! (lit ! tt) (no-more !)))) (from ! (stop !)) (init ! 27 refl (tt, (tt, (record { fits = lit< tt }, tt)))) $
           assigns ! (addr ! (from ! (stop !))) (from ! (stop !)) (init ! 25 refl (tt, tt)) $
           assigns ! (agg ! (and-then ! (load ! (from ! (stop !)) (look ! 25 refl)) (and-then ! (lit ! tt) (no-more !)))) (from ! (stop !)) (init ! 23 refl (tt, (tt, (record { fits = lit< tt }, tt)))) $
           assigns ! (addr ! (from ! (stop !))) (from ! (stop !)) (init ! 21 refl (tt, tt)) $
           assigns ! (agg ! (and-then ! (load ! (from ! (stop !)) (look ! 21 refl)) (and-then ! (lit ! tt) (no-more !)))) (from ! (stop !)) (init ! 19 refl (tt, (tt, (record { fits = lit< tt }, tt)))) $
-          rewrite ! 27 (λ (m : ℕ). ‵ (fat fullShare ty25 l25 0 (sliceVal (l7, 0) m))) (sym (f-archive .1 .0 .1)) refl $
-          lft-new ! tt (λ α7-shown. has ! (known-array a-ArchiveLine 15) (archive-at k) f-archive $ move ! (65 ∷ 0 ∷ []) $ use2 W (later (some (λ (γ7-shown : GName). ‵ (ShrSlice (named 0) (α7-shown ∷ []) ArchiveLine′.the-row .own (record { ptr = (l7, 0); name = γ7-shown; now = (archive-at k) }) ((sliceVal (l7, 0) (length (archive-at k))) ∷ [])) ⊛ ‵ (flent (α7-shown ∷ []) (arr-parts (shares ArchiveLine′.the-row) (length (archive-at k)) .part fullShare (archive-at k) l7 0))))) (shares-array 𝓤 H A W a-ArchiveLine 15 tt (named 0) (α7-shown ∷ []) (archive-at k) ((known-array a-ArchiveLine 15) .val (archive-at k)) l7 (subst (Room ArchiveLine′.the-row) (sym (f-archive .1 .0 .1)) (lit< tt, lit< tt))) $ await ! tt $ pick ! (λ γ7-shown. split ! $
-          rewrite ! 26 (λ (m : ℕ). ‵ (fat fullShare ty27 l27 0 (sliceVal (l8, 0) m))) (sym (f-log .1 .0 .1)) refl $
-          lft-new ! tt (λ α8-shown. has ! (known-array a-LogLine 250) (log-at k) f-log $ move ! (66 ∷ 0 ∷ []) $ use2 W (later (some (λ (γ8-shown : GName). ‵ (ShrSlice (named 1) (α8-shown ∷ []) LogLine′.the-row .own (record { ptr = (l8, 0); name = γ8-shown; now = (log-at k) }) ((sliceVal (l8, 0) (length (log-at k))) ∷ [])) ⊛ ‵ (flent (α8-shown ∷ []) (arr-parts (shares LogLine′.the-row) (length (log-at k)) .part fullShare (log-at k) l8 0))))) (shares-array 𝓤 H A W a-LogLine 250 tt (named 1) (α8-shown ∷ []) (log-at k) ((known-array a-LogLine 250) .val (log-at k)) l8 (subst (Room LogLine′.the-row) (sym (f-log .1 .0 .1)) (lit< tt, lit< tt))) $ await ! tt $ pick ! (λ γ8-shown. split ! $
-          rewrite ! 25 (λ (m : ℕ). ‵ (fat fullShare ty29 l29 0 (sliceVal (l9, 0) m))) (sym (f-audit .1 .0 .1)) refl $
-          lft-new ! tt (λ α9-shown. has ! (known-array a-AuditLine 200) (audit-at k) f-audit $ move ! (67 ∷ 0 ∷ []) $ use2 W (later (some (λ (γ9-shown : GName). ‵ (ShrSlice (named 2) (α9-shown ∷ []) AuditLine′.the-row .own (record { ptr = (l9, 0); name = γ9-shown; now = (audit-at k) }) ((sliceVal (l9, 0) (length (audit-at k))) ∷ [])) ⊛ ‵ (flent (α9-shown ∷ []) (arr-parts (shares AuditLine′.the-row) (length (audit-at k)) .part fullShare (audit-at k) l9 0))))) (shares-array 𝓤 H A W a-AuditLine 200 tt (named 2) (α9-shown ∷ []) (audit-at k) ((known-array a-AuditLine 200) .val (audit-at k)) l9 (subst (Room AuditLine′.the-row) (sym (f-audit .1 .0 .1)) (lit< tt, lit< tt))) $ await ! tt $ pick ! (λ γ9-shown. split ! $
+          rewrite ! 27 (λ (m : ℕ). ‵ (fat fullShare ty28 l28 0 (sliceVal (l8, 0) m))) (sym (f-archive .1 .0 .1)) refl $
+          lft-new ! tt (λ α8-seen. has ! (known-array a-ArchiveLine 15) (archive-at k) f-archive $ move ! (69 ∷ 0 ∷ []) $ use2 W (later (some (λ (γ8-seen : GName). ‵ (ShrSlice (named 0) (α8-seen ∷ []) ArchiveLine′.the-row .own (record { ptr = (l8, 0); name = γ8-seen; now = (archive-at k) }) ((sliceVal (l8, 0) (length (archive-at k))) ∷ [])) ⊛ ‵ (flent (α8-seen ∷ []) (arr-parts (shares ArchiveLine′.the-row) (length (archive-at k)) .part fullShare (archive-at k) l8 0))))) (shares-array 𝓤 H A W a-ArchiveLine 15 tt (named 0) (α8-seen ∷ []) (archive-at k) ((known-array a-ArchiveLine 15) .val (archive-at k)) l8 (subst (Room ArchiveLine′.the-row) (sym (f-archive .1 .0 .1)) (lit< tt, lit< tt))) $ await ! tt $ pick ! (λ γ8-seen. split ! $
+          rewrite ! 26 (λ (m : ℕ). ‵ (fat fullShare ty30 l30 0 (sliceVal (l9, 0) m))) (sym (f-log .1 .0 .1)) refl $
+          lft-new ! tt (λ α9-seen. has ! (known-array a-LogLine 250) (log-at k) f-log $ move ! (70 ∷ 0 ∷ []) $ use2 W (later (some (λ (γ9-seen : GName). ‵ (ShrSlice (named 1) (α9-seen ∷ []) LogLine′.the-row .own (record { ptr = (l9, 0); name = γ9-seen; now = (log-at k) }) ((sliceVal (l9, 0) (length (log-at k))) ∷ [])) ⊛ ‵ (flent (α9-seen ∷ []) (arr-parts (shares LogLine′.the-row) (length (log-at k)) .part fullShare (log-at k) l9 0))))) (shares-array 𝓤 H A W a-LogLine 250 tt (named 1) (α9-seen ∷ []) (log-at k) ((known-array a-LogLine 250) .val (log-at k)) l9 (subst (Room LogLine′.the-row) (sym (f-log .1 .0 .1)) (lit< tt, lit< tt))) $ await ! tt $ pick ! (λ γ9-seen. split ! $
+          rewrite ! 25 (λ (m : ℕ). ‵ (fat fullShare ty32 l32 0 (sliceVal (l10, 0) m))) (sym (f-audit .1 .0 .1)) refl $
+          lft-new ! tt (λ α10-seen. has ! (known-array a-AuditLine 200) (audit-at k) f-audit $ move ! (71 ∷ 0 ∷ []) $ use2 W (later (some (λ (γ10-seen : GName). ‵ (ShrSlice (named 2) (α10-seen ∷ []) AuditLine′.the-row .own (record { ptr = (l10, 0); name = γ10-seen; now = (audit-at k) }) ((sliceVal (l10, 0) (length (audit-at k))) ∷ [])) ⊛ ‵ (flent (α10-seen ∷ []) (arr-parts (shares AuditLine′.the-row) (length (audit-at k)) .part fullShare (audit-at k) l10 0))))) (shares-array 𝓤 H A W a-AuditLine 200 tt (named 2) (α10-seen ∷ []) (audit-at k) ((known-array a-AuditLine 200) .val (audit-at k)) l10 (subst (Room AuditLine′.the-row) (sym (f-audit .1 .0 .1)) (lit< tt, lit< tt))) $ await ! tt $ pick ! (λ γ10-seen. split ! $
           nothing ! $ move ! (3 ∷ 0 ∷ []) $ join ! $ move ! (5 ∷ 0 ∷ []) $ join ! $ move ! (7 ∷ 0 ∷ []) $ join ! $ move ! (1 ∷ []) $ move ! (3 ∷ 0 ∷ []) $ join ! $ move ! (4 ∷ 0 ∷ []) $ join ! $ move ! (1 ∷ 0 ∷ []) $ join ! $
-          calls-with ! fm (Says-shown 𝓤 H A at-mem run) known-shown (to-shown k l7 α7-shown γ7-shown l8 α8-shown γ8-shown l9 α9-shown γ9-shown) ((‵ (flft (α7-shown ∷ []) fullShare) ⊛ (‵ (flft (α8-shown ∷ []) fullShare) ⊛ (‵ (flft (α9-shown ∷ []) fullShare) ⊛ ‵ ftrue))) ⊛ (‵ (ShrSlice (named 0) (α7-shown ∷ []) ArchiveLine′.the-row .own (record { ptr = (l7, 0); name = γ7-shown; now = (archive-at k) }) ((sliceVal (l7, 0) (length (archive-at k))) ∷ [])) ⊛ (‵ (ShrSlice (named 1) (α8-shown ∷ []) LogLine′.the-row .own (record { ptr = (l8, 0); name = γ8-shown; now = (log-at k) }) ((sliceVal (l8, 0) (length (log-at k))) ∷ [])) ⊛ ‵ (ShrSlice (named 2) (α9-shown ∷ []) AuditLine′.the-row .own (record { ptr = (l9, 0); name = γ9-shown; now = (audit-at k) }) ((sliceVal (l9, 0) (length (audit-at k))) ∷ []))))) (‵ (flft (α7-shown ∷ []) fullShare) ⊛ (‵ (flft (α8-shown ∷ []) fullShare) ⊛ (‵ (flft (α9-shown ∷ []) fullShare) ⊛ ‵ ftrue))) (a-Reply .val (is-shown k)) _ (asks-shown k l7 α7-shown γ7-shown l8 α8-shown γ8-shown l9 α9-shown γ9-shown f-s t-command-in) (gives-shown k l7 α7-shown γ7-shown l8 α8-shown γ8-shown l9 α9-shown γ9-shown) (and-then ! (load ! (from ! (stop !)) (look ! 66 refl)) (and-then ! (load ! (from ! (stop !)) (look ! 55 refl)) (and-then ! (load ! (from ! (stop !)) (look ! 31 refl)) (and-then ! (load ! (from ! (stop !)) (look ! 27 refl)) (and-then ! (load ! (from ! (stop !)) (look ! 23 refl)) (no-more !)))))) (λ t-shown.
-          land ! (from ! (stop !)) (init ! 53 refl (a-Reply .lawful 𝓤 H A W .typed (is-shown k) _ t-shown .0)) $
+          calls-with ! fm (Says-seen 𝓤 H A at-mem run) known-seen (to-seen k l8 α8-seen γ8-seen l9 α9-seen γ9-seen l10 α10-seen γ10-seen) ((‵ (flft (α8-seen ∷ []) fullShare) ⊛ (‵ (flft (α9-seen ∷ []) fullShare) ⊛ (‵ (flft (α10-seen ∷ []) fullShare) ⊛ ‵ ftrue))) ⊛ (‵ (ShrSlice (named 0) (α8-seen ∷ []) ArchiveLine′.the-row .own (record { ptr = (l8, 0); name = γ8-seen; now = (archive-at k) }) ((sliceVal (l8, 0) (length (archive-at k))) ∷ [])) ⊛ (‵ (ShrSlice (named 1) (α9-seen ∷ []) LogLine′.the-row .own (record { ptr = (l9, 0); name = γ9-seen; now = (log-at k) }) ((sliceVal (l9, 0) (length (log-at k))) ∷ [])) ⊛ ‵ (ShrSlice (named 2) (α10-seen ∷ []) AuditLine′.the-row .own (record { ptr = (l10, 0); name = γ10-seen; now = (audit-at k) }) ((sliceVal (l10, 0) (length (audit-at k))) ∷ []))))) (‵ (flft (α8-seen ∷ []) fullShare) ⊛ (‵ (flft (α9-seen ∷ []) fullShare) ⊛ (‵ (flft (α10-seen ∷ []) fullShare) ⊛ ‵ ftrue))) (a-Reply .val (is-seen k)) _ (asks-seen k l8 α8-seen γ8-seen l9 α9-seen γ9-seen l10 α10-seen γ10-seen f-s f-sound t-command-in) (gives-seen k l8 α8-seen γ8-seen l9 α9-seen γ9-seen l10 α10-seen γ10-seen) (and-then ! (load ! (from ! (stop !)) (look ! 72 refl)) (and-then ! (load ! (from ! (stop !)) (look ! 70 refl)) (and-then ! (load ! (from ! (stop !)) (look ! 57 refl)) (and-then ! (load ! (from ! (stop !)) (look ! 31 refl)) (and-then ! (load ! (from ! (stop !)) (look ! 27 refl)) (and-then ! (load ! (from ! (stop !)) (look ! 23 refl)) (no-more !))))))) (λ t-seen.
+          land ! (from ! (stop !)) (init ! 55 refl (a-Reply .lawful 𝓤 H A W .typed (is-seen k) _ t-seen .0)) $
           split ! $ lft-end ! tt $ move ! (1 ∷ []) $ split ! $ lft-end ! tt $ move ! (1 ∷ []) $ split ! $ lft-end ! tt $ move ! (1 ∷ []) $ drop ! $
-          move ! (2 ∷ 5 ∷ []) $ use2 W (later (‵ (row ArchiveLine′.the-row fullShare (archive-at k) l7 0))) (shared-comes-back 𝓤 H A W a-ArchiveLine 15 (α7-shown ∷ []) (archive-at k) l7) $ await ! tt $ use1 W (given (Fine (known-array a-ArchiveLine 15) (archive-at k)) (‵ (fat fullShare ty7 l7 0 ((known-array a-ArchiveLine 15) .val (archive-at k))))) (array-back 𝓤 H A W a-ArchiveLine 15 (archive-at k) l7 (f-archive .1 .0 .1)) $ learn ! (λ ok-array7-shown.
-          move ! (2 ∷ 4 ∷ []) $ use2 W (later (‵ (row LogLine′.the-row fullShare (log-at k) l8 0))) (shared-comes-back 𝓤 H A W a-LogLine 250 (α8-shown ∷ []) (log-at k) l8) $ await ! tt $ use1 W (given (Fine (known-array a-LogLine 250) (log-at k)) (‵ (fat fullShare ty8 l8 0 ((known-array a-LogLine 250) .val (log-at k))))) (array-back 𝓤 H A W a-LogLine 250 (log-at k) l8 (f-log .1 .0 .1)) $ learn ! (λ ok-array8-shown.
-          move ! (2 ∷ 3 ∷ []) $ use2 W (later (‵ (row AuditLine′.the-row fullShare (audit-at k) l9 0))) (shared-comes-back 𝓤 H A W a-AuditLine 200 (α9-shown ∷ []) (audit-at k) l9) $ await ! tt $ use1 W (given (Fine (known-array a-AuditLine 200) (audit-at k)) (‵ (fat fullShare ty9 l9 0 ((known-array a-AuditLine 200) .val (audit-at k))))) (array-back 𝓤 H A W a-AuditLine 200 (audit-at k) l9 (f-audit .1 .0 .1)) $ learn ! (λ ok-array9-shown.
+          move ! (2 ∷ 5 ∷ []) $ use2 W (later (‵ (row ArchiveLine′.the-row fullShare (archive-at k) l8 0))) (shared-comes-back 𝓤 H A W a-ArchiveLine 15 (α8-seen ∷ []) (archive-at k) l8) $ await ! tt $ use1 W (given (Fine (known-array a-ArchiveLine 15) (archive-at k)) (‵ (fat fullShare ty8 l8 0 ((known-array a-ArchiveLine 15) .val (archive-at k))))) (array-back 𝓤 H A W a-ArchiveLine 15 (archive-at k) l8 (f-archive .1 .0 .1)) $ learn ! (λ ok-array8-seen.
+          move ! (2 ∷ 4 ∷ []) $ use2 W (later (‵ (row LogLine′.the-row fullShare (log-at k) l9 0))) (shared-comes-back 𝓤 H A W a-LogLine 250 (α9-seen ∷ []) (log-at k) l9) $ await ! tt $ use1 W (given (Fine (known-array a-LogLine 250) (log-at k)) (‵ (fat fullShare ty9 l9 0 ((known-array a-LogLine 250) .val (log-at k))))) (array-back 𝓤 H A W a-LogLine 250 (log-at k) l9 (f-log .1 .0 .1)) $ learn ! (λ ok-array9-seen.
+          move ! (2 ∷ 3 ∷ []) $ use2 W (later (‵ (row AuditLine′.the-row fullShare (audit-at k) l10 0))) (shared-comes-back 𝓤 H A W a-AuditLine 200 (α10-seen ∷ []) (audit-at k) l10) $ await ! tt $ use1 W (given (Fine (known-array a-AuditLine 200) (audit-at k)) (‵ (fat fullShare ty10 l10 0 ((known-array a-AuditLine 200) .val (audit-at k))))) (array-back 𝓤 H A W a-AuditLine 200 (audit-at k) l10 (f-audit .1 .0 .1)) $ learn ! (λ ok-array10-seen.
           forget ! 22 refl $ forget ! 24 refl $ forget ! 26 refl $ forget ! 28 refl $ forget ! 30 refl $ forget ! 32 refl $
-          turn-3 n-fine k low f-s f-archive f-log f-audit f-said less t-fetch-order ok-array4-fetch-order t-command-in t-shown ok-array7-shown ok-array8-shown ok-array9-shown))))))))))
+          turn-3 n-fine k low f-s f-sound f-archive f-log f-audit f-outputs less t-fetch-input ok-array4-fetch-input t-entry-in t-command-in t-seen ok-array8-seen ok-array9-seen ok-array10-seen))))))))))
 
-      turn-1 : (n-fine : Fine a-usize n) (k : ℕ) (low : k ≤ n) (f-s : Fine a-State (s-at k)) (f-archive : Fine (known-array a-ArchiveLine 15) (archive-at k)) (f-log : Fine (known-array a-LogLine 250) (log-at k)) (f-audit : Fine (known-array a-AuditLine 200) (audit-at k)) (f-said : Fine (known-array a-Said 256) (said-at k)) (less : T (ltb k n)) → Sq W (‵ (froom ty38 l38 0) ∷ ‵ (fdies ty38 l38) ∷ ‵ (froom ty37 l37 0) ∷ ‵ (fdies ty37 l37) ∷ ‵ (froom ty36 l36 0) ∷ ‵ (fdies ty36 l36) ∷ ‵ (froom ty35 l35 0) ∷ ‵ (fdies ty35 l35) ∷ ‵ (froom ty34 l34 0) ∷ ‵ (fdies ty34 l34) ∷ ‵ (froom ty33 l33 0) ∷ ‵ (fdies ty33 l33) ∷ ‵ (froom ty32 l32 0) ∷ ‵ (fdies ty32 l32) ∷ ‵ (froom ty31 l31 0) ∷ ‵ (fdies ty31 l31) ∷ ‵ (froom ty30 l30 0) ∷ ‵ (fdies ty30 l30) ∷ ‵ (froom ty29 l29 0) ∷ ‵ (fdies ty29 l29) ∷ ‵ (froom ty28 l28 0) ∷ ‵ (fdies ty28 l28) ∷ ‵ (froom ty27 l27 0) ∷ ‵ (fdies ty27 l27) ∷ ‵ (froom ty26 l26 0) ∷ ‵ (fdies ty26 l26) ∷ ‵ (froom ty25 l25 0) ∷ ‵ (fdies ty25 l25) ∷ ‵ (froom ty24 l24 0) ∷ ‵ (fdies ty24 l24) ∷ ‵ (froom ty23 l23 0) ∷ ‵ (fdies ty23 l23) ∷ ‵ (froom ty22 l22 0) ∷ ‵ (fdies ty22 l22) ∷ ‵ (froom ty21 l21 0) ∷ ‵ (fdies ty21 l21) ∷ ‵ (froom ty20 l20 0) ∷ ‵ (fdies ty20 l20) ∷ ‵ (froom ty19 l19 0) ∷ ‵ (fdies ty19 l19) ∷ ‵ (froom ty18 l18 0) ∷ ‵ (fdies ty18 l18) ∷ ‵ (froom ty17 l17 0) ∷ ‵ (fdies ty17 l17) ∷ ‵ (froom ty16 l16 0) ∷ ‵ (fdies ty16 l16) ∷ ‵ (froom ty15 l15 0) ∷ ‵ (fdies ty15 l15) ∷ ‵ (froom ty14 l14 0) ∷ ‵ (fdies ty14 l14) ∷ ‵ (froom ty13 l13 0) ∷ ‵ (fdies ty13 l13) ∷ ‵ (froom ty12 l12 0) ∷ ‵ (fdies ty12 l12) ∷ ‵ (fat fullShare ty11 l11 0 (a-usize .val k)) ∷ ‵ (fdies ty11 l11) ∷ ‵ (fat fullShare ty10 l10 0 ((known-array a-Said 256) .val (said-at k))) ∷ ‵ (fdies ty10 l10) ∷ ‵ (fat fullShare ty9 l9 0 ((known-array a-AuditLine 200) .val (audit-at k))) ∷ ‵ (fdies ty9 l9) ∷ ‵ (fat fullShare ty8 l8 0 ((known-array a-LogLine 250) .val (log-at k))) ∷ ‵ (fdies ty8 l8) ∷ ‵ (fat fullShare ty7 l7 0 ((known-array a-ArchiveLine 15) .val (archive-at k))) ∷ ‵ (fdies ty7 l7) ∷ ‵ (fat fullShare ty6 l6 0 (a-State .val (s-at k))) ∷ ‵ (fdies ty6 l6) ∷ ‵ (fat fullShare ty5 l5 0 (a-usize .val n)) ∷ ‵ (fdies ty5 l5) ∷ ‵ (fat fullShare ty4 l4 0 ((known-array a-Order 256) .val orders)) ∷ ‵ (fdies ty4 l4) ∷ ‵ (froom ty3 l3 0) ∷ ‵ (fdies ty3 l3) ∷ ‵ (froom ty2 l2 0) ∷ ‵ (fdies ty2 l2) ∷ ‵ (froom ty1 l1 0) ∷ ‵ (fdies ty1 l1) ∷ ‵ (froom ty0 l0 0) ∷ ‵ (fdies ty0 l0) ∷ []) (runs (𝓣 .C) (𝓣 .Λ) E (rest-of (rest-of (M.turn-1))) (anyQ (Turned (k, (low, (f-s, (f-archive, (f-log, (f-audit, f-said)))))))))
-      turn-1 n-fine k low f-s f-archive f-log f-audit f-said less =
+      turn-1 : (n-fine : Fine a-usize n) (k : ℕ) (low : k ≤ n) (f-s : Fine a-State (s-at k)) (f-sound : Fine a-bool (sound-at k)) (f-archive : Fine (known-array a-ArchiveLine 15) (archive-at k)) (f-log : Fine (known-array a-LogLine 250) (log-at k)) (f-audit : Fine (known-array a-AuditLine 200) (audit-at k)) (f-outputs : Fine (known-array a-Output 256) (outputs-at k)) (less : T (ltb k n)) → Sq W (‵ (froom ty41 l41 0) ∷ ‵ (fdies ty41 l41) ∷ ‵ (froom ty40 l40 0) ∷ ‵ (fdies ty40 l40) ∷ ‵ (froom ty39 l39 0) ∷ ‵ (fdies ty39 l39) ∷ ‵ (froom ty38 l38 0) ∷ ‵ (fdies ty38 l38) ∷ ‵ (froom ty37 l37 0) ∷ ‵ (fdies ty37 l37) ∷ ‵ (froom ty36 l36 0) ∷ ‵ (fdies ty36 l36) ∷ ‵ (froom ty35 l35 0) ∷ ‵ (fdies ty35 l35) ∷ ‵ (froom ty34 l34 0) ∷ ‵ (fdies ty34 l34) ∷ ‵ (froom ty33 l33 0) ∷ ‵ (fdies ty33 l33) ∷ ‵ (froom ty32 l32 0) ∷ ‵ (fdies ty32 l32) ∷ ‵ (froom ty31 l31 0) ∷ ‵ (fdies ty31 l31) ∷ ‵ (froom ty30 l30 0) ∷ ‵ (fdies ty30 l30) ∷ ‵ (froom ty29 l29 0) ∷ ‵ (fdies ty29 l29) ∷ ‵ (froom ty28 l28 0) ∷ ‵ (fdies ty28 l28) ∷ ‵ (froom ty27 l27 0) ∷ ‵ (fdies ty27 l27) ∷ ‵ (froom ty26 l26 0) ∷ ‵ (fdies ty26 l26) ∷ ‵ (froom ty25 l25 0) ∷ ‵ (fdies ty25 l25) ∷ ‵ (froom ty24 l24 0) ∷ ‵ (fdies ty24 l24) ∷ ‵ (froom ty23 l23 0) ∷ ‵ (fdies ty23 l23) ∷ ‵ (froom ty22 l22 0) ∷ ‵ (fdies ty22 l22) ∷ ‵ (froom ty21 l21 0) ∷ ‵ (fdies ty21 l21) ∷ ‵ (froom ty20 l20 0) ∷ ‵ (fdies ty20 l20) ∷ ‵ (froom ty19 l19 0) ∷ ‵ (fdies ty19 l19) ∷ ‵ (froom ty18 l18 0) ∷ ‵ (fdies ty18 l18) ∷ ‵ (froom ty17 l17 0) ∷ ‵ (fdies ty17 l17) ∷ ‵ (froom ty16 l16 0) ∷ ‵ (fdies ty16 l16) ∷ ‵ (froom ty15 l15 0) ∷ ‵ (fdies ty15 l15) ∷ ‵ (froom ty14 l14 0) ∷ ‵ (fdies ty14 l14) ∷ ‵ (froom ty13 l13 0) ∷ ‵ (fdies ty13 l13) ∷ ‵ (fat fullShare ty12 l12 0 (a-usize .val k)) ∷ ‵ (fdies ty12 l12) ∷ ‵ (fat fullShare ty11 l11 0 ((known-array a-Output 256) .val (outputs-at k))) ∷ ‵ (fdies ty11 l11) ∷ ‵ (fat fullShare ty10 l10 0 ((known-array a-AuditLine 200) .val (audit-at k))) ∷ ‵ (fdies ty10 l10) ∷ ‵ (fat fullShare ty9 l9 0 ((known-array a-LogLine 250) .val (log-at k))) ∷ ‵ (fdies ty9 l9) ∷ ‵ (fat fullShare ty8 l8 0 ((known-array a-ArchiveLine 15) .val (archive-at k))) ∷ ‵ (fdies ty8 l8) ∷ ‵ (fat fullShare ty7 l7 0 (a-bool .val (sound-at k))) ∷ ‵ (fdies ty7 l7) ∷ ‵ (fat fullShare ty6 l6 0 (a-State .val (s-at k))) ∷ ‵ (fdies ty6 l6) ∷ ‵ (fat fullShare ty5 l5 0 (a-usize .val n)) ∷ ‵ (fdies ty5 l5) ∷ ‵ (fat fullShare ty4 l4 0 ((known-array a-Input 256) .val inputs)) ∷ ‵ (fdies ty4 l4) ∷ ‵ (froom ty3 l3 0) ∷ ‵ (fdies ty3 l3) ∷ ‵ (froom ty2 l2 0) ∷ ‵ (fdies ty2 l2) ∷ ‵ (froom ty1 l1 0) ∷ ‵ (fdies ty1 l1) ∷ ‵ (froom ty0 l0 0) ∷ ‵ (fdies ty0 l0) ∷ []) (runs (𝓣 .C) (𝓣 .Λ) E (rest-of (rest-of (M.turn-1))) (anyQ (Turned (k, (low, (f-s, (f-sound, (f-archive, (f-log, (f-audit, f-outputs))))))))))
+      turn-1 n-fine k low f-s f-sound f-archive f-log f-audit f-outputs less =
           assigns ! (addr ! (from ! (stop !))) (from ! (stop !)) (init ! 32 refl (tt, tt)) $
           assigns ! (agg ! (and-then ! (load ! (from ! (stop !)) (look ! 32 refl)) (and-then ! (lit ! tt) (no-more !)))) (from ! (stop !)) (init ! 30 refl (tt, (tt, (record { fits = lit< tt }, tt)))) $
-          rewrite ! 30 (λ (m : ℕ). ‵ (fat fullShare ty23 l23 0 (sliceVal (l4, 0) m))) (sym (orders-fine .1 .0 .1)) refl $
-          lft-new ! tt (λ α4-fetch-order. has ! (known-array a-Order 256) orders orders-fine $ move ! (70 ∷ 0 ∷ []) $ use2 W (later (some (λ (γ4-fetch-order : GName). ‵ (ShrSlice (named 0) (α4-fetch-order ∷ []) Order′.the-row .own (record { ptr = (l4, 0); name = γ4-fetch-order; now = orders }) ((sliceVal (l4, 0) (length orders)) ∷ [])) ⊛ ‵ (flent (α4-fetch-order ∷ []) (arr-parts (shares Order′.the-row) (length orders) .part fullShare orders l4 0))))) (shares-array 𝓤 H A W a-Order 256 tt (named 0) (α4-fetch-order ∷ []) orders ((known-array a-Order 256) .val orders) l4 (subst (Room Order′.the-row) (sym (orders-fine .1 .0 .1)) (lit< tt, lit< tt))) $ await ! tt $ pick ! (λ γ4-fetch-order. split ! $
+          rewrite ! 30 (λ (m : ℕ). ‵ (fat fullShare ty26 l26 0 (sliceVal (l4, 0) m))) (sym (inputs-fine .1 .0 .1)) refl $
+          lft-new ! tt (λ α4-fetch-input. has ! (known-array a-Input 256) inputs inputs-fine $ move ! (76 ∷ 0 ∷ []) $ use2 W (later (some (λ (γ4-fetch-input : GName). ‵ (ShrSlice (named 0) (α4-fetch-input ∷ []) Input′.the-row .own (record { ptr = (l4, 0); name = γ4-fetch-input; now = inputs }) ((sliceVal (l4, 0) (length inputs)) ∷ [])) ⊛ ‵ (flent (α4-fetch-input ∷ []) (arr-parts (shares Input′.the-row) (length inputs) .part fullShare inputs l4 0))))) (shares-array 𝓤 H A W a-Input 256 tt (named 0) (α4-fetch-input ∷ []) inputs ((known-array a-Input 256) .val inputs) l4 (subst (Room Input′.the-row) (sym (inputs-fine .1 .0 .1)) (lit< tt, lit< tt))) $ await ! tt $ pick ! (λ γ4-fetch-input. split ! $
           nothing ! $ move ! (3 ∷ 0 ∷ []) $ join ! $ move ! (1 ∷ []) $ move ! (1 ∷ 0 ∷ []) $ join ! $
-          calls-with ! fm (Says-fetch-order 𝓤 H A at-mem run) known-fetch-order (to-fetch-order k l4 α4-fetch-order γ4-fetch-order) ((‵ (flft (α4-fetch-order ∷ []) fullShare) ⊛ ‵ ftrue) ⊛ ‵ (ShrSlice (named 0) (α4-fetch-order ∷ []) Order′.the-row .own (record { ptr = (l4, 0); name = γ4-fetch-order; now = orders }) ((sliceVal (l4, 0) (length orders)) ∷ []))) (‵ (flft (α4-fetch-order ∷ []) fullShare) ⊛ ‵ ftrue) (a-Order .val (is-fetch-order k)) _ (asks-fetch-order k l4 α4-fetch-order γ4-fetch-order (refl, below k n low (n-fine .1))) (gives-fetch-order k l4 α4-fetch-order γ4-fetch-order) (and-then ! (load ! (from ! (stop !)) (look ! 32 refl)) (and-then ! (load ! (from ! (stop !)) (look ! 56 refl)) (no-more !))) (λ t-fetch-order.
-          land ! (from ! (stop !)) (init ! 54 refl (a-Order .lawful 𝓤 H A W .typed (is-fetch-order k) _ t-fetch-order .0)) $
+          calls-with ! fm (Says-fetch-input 𝓤 H A at-mem run) known-fetch-input (to-fetch-input k l4 α4-fetch-input γ4-fetch-input) ((‵ (flft (α4-fetch-input ∷ []) fullShare) ⊛ ‵ ftrue) ⊛ ‵ (ShrSlice (named 0) (α4-fetch-input ∷ []) Input′.the-row .own (record { ptr = (l4, 0); name = γ4-fetch-input; now = inputs }) ((sliceVal (l4, 0) (length inputs)) ∷ []))) (‵ (flft (α4-fetch-input ∷ []) fullShare) ⊛ ‵ ftrue) (a-Input .val (is-fetch-input k)) _ (asks-fetch-input k l4 α4-fetch-input γ4-fetch-input (refl, below k n low (n-fine .1))) (gives-fetch-input k l4 α4-fetch-input γ4-fetch-input) (and-then ! (load ! (from ! (stop !)) (look ! 32 refl)) (and-then ! (load ! (from ! (stop !)) (look ! 60 refl)) (no-more !))) (λ t-fetch-input.
+          land ! (from ! (stop !)) (init ! 58 refl (a-Input .lawful 𝓤 H A W .typed (is-fetch-input k) _ t-fetch-input .0)) $
           split ! $ lft-end ! tt $ move ! (1 ∷ []) $ drop ! $
-          use2 W (later (‵ (row Order′.the-row fullShare orders l4 0))) (shared-comes-back 𝓤 H A W a-Order 256 (α4-fetch-order ∷ []) orders l4) $ await ! tt $ use1 W (given (Fine (known-array a-Order 256) orders) (‵ (fat fullShare ty4 l4 0 ((known-array a-Order 256) .val orders)))) (array-back 𝓤 H A W a-Order 256 orders l4 (orders-fine .1 .0 .1)) $ learn ! (λ ok-array4-fetch-order.
+          use2 W (later (‵ (row Input′.the-row fullShare inputs l4 0))) (shared-comes-back 𝓤 H A W a-Input 256 (α4-fetch-input ∷ []) inputs l4) $ await ! tt $ use1 W (given (Fine (known-array a-Input 256) inputs) (‵ (fat fullShare ty4 l4 0 ((known-array a-Input 256) .val inputs)))) (array-back 𝓤 H A W a-Input 256 inputs l4 (inputs-fine .1 .0 .1)) $ learn ! (λ ok-array4-fetch-input.
           forget ! 31 refl $ forget ! 33 refl $
-          calls-value ! fm (Says-command-in 𝓤 H A at-mem run) known-command-in (to-command-in k) (a-Command .val (is-command-in k)) _ (asks-command-in k t-fetch-order) (gives-command-in k) (and-then ! (load ! (from ! (stop !)) (look ! 54 refl)) (no-more !)) (λ t-command-in.
-          land ! (from ! (stop !)) (init ! 51 refl (a-Command .lawful 𝓤 H A W .typed (is-command-in k) _ t-command-in .0)) $
-          turn-2 n-fine k low f-s f-archive f-log f-audit f-said less t-fetch-order ok-array4-fetch-order t-command-in)))))
+          calls-value ! fm (Says-entry-in 𝓤 H A at-mem run) known-entry-in (to-entry-in k) (a-Entry .val (is-entry-in k)) _ (asks-entry-in k t-fetch-input) (gives-entry-in k) (and-then ! (load ! (from ! (stop !)) (look ! 58 refl)) (no-more !)) (λ t-entry-in.
+          land ! (from ! (stop !)) (init ! 55 refl (a-Entry .lawful 𝓤 H A W .typed (is-entry-in k) _ t-entry-in .0)) $
+          calls-value ! fm (Says-command-in 𝓤 H A at-mem run) known-command-in (to-command-in k) (a-Command .val (is-command-in k)) _ (asks-command-in k t-entry-in) (gives-command-in k) (and-then ! (load ! (from ! (stop !)) (look ! 56 refl)) (no-more !)) (λ t-command-in.
+          land ! (from ! (stop !)) (init ! 53 refl (a-Command .lawful 𝓤 H A W .typed (is-command-in k) _ t-command-in .0)) $
+          turn-2 n-fine k low f-s f-sound f-archive f-log f-audit f-outputs less t-fetch-input ok-array4-fetch-input t-entry-in t-command-in))))))
 
-      taken : (n-fine : Fine a-usize n) (k : ℕ) (low : k ≤ n) (f-s : Fine a-State (s-at k)) (f-archive : Fine (known-array a-ArchiveLine 15) (archive-at k)) (f-log : Fine (known-array a-LogLine 250) (log-at k)) (f-audit : Fine (known-array a-AuditLine 200) (audit-at k)) (f-said : Fine (known-array a-Said 256) (said-at k)) (less : T (ltb k n)) → Sq W (‵ (froom ty38 l38 0) ∷ ‵ (fdies ty38 l38) ∷ ‵ (froom ty37 l37 0) ∷ ‵ (fdies ty37 l37) ∷ ‵ (froom ty36 l36 0) ∷ ‵ (fdies ty36 l36) ∷ ‵ (froom ty35 l35 0) ∷ ‵ (fdies ty35 l35) ∷ ‵ (froom ty34 l34 0) ∷ ‵ (fdies ty34 l34) ∷ ‵ (froom ty33 l33 0) ∷ ‵ (fdies ty33 l33) ∷ ‵ (froom ty32 l32 0) ∷ ‵ (fdies ty32 l32) ∷ ‵ (froom ty31 l31 0) ∷ ‵ (fdies ty31 l31) ∷ ‵ (froom ty30 l30 0) ∷ ‵ (fdies ty30 l30) ∷ ‵ (froom ty29 l29 0) ∷ ‵ (fdies ty29 l29) ∷ ‵ (froom ty28 l28 0) ∷ ‵ (fdies ty28 l28) ∷ ‵ (froom ty27 l27 0) ∷ ‵ (fdies ty27 l27) ∷ ‵ (froom ty26 l26 0) ∷ ‵ (fdies ty26 l26) ∷ ‵ (froom ty25 l25 0) ∷ ‵ (fdies ty25 l25) ∷ ‵ (froom ty24 l24 0) ∷ ‵ (fdies ty24 l24) ∷ ‵ (froom ty23 l23 0) ∷ ‵ (fdies ty23 l23) ∷ ‵ (froom ty22 l22 0) ∷ ‵ (fdies ty22 l22) ∷ ‵ (fat fullShare ty21 l21 0 (a-bool .val (ltb k n))) ∷ ‵ (fdies ty21 l21) ∷ ‵ (froom ty20 l20 0) ∷ ‵ (fdies ty20 l20) ∷ ‵ (froom ty19 l19 0) ∷ ‵ (fdies ty19 l19) ∷ ‵ (froom ty18 l18 0) ∷ ‵ (fdies ty18 l18) ∷ ‵ (froom ty17 l17 0) ∷ ‵ (fdies ty17 l17) ∷ ‵ (froom ty16 l16 0) ∷ ‵ (fdies ty16 l16) ∷ ‵ (froom ty15 l15 0) ∷ ‵ (fdies ty15 l15) ∷ ‵ (froom ty14 l14 0) ∷ ‵ (fdies ty14 l14) ∷ ‵ (froom ty13 l13 0) ∷ ‵ (fdies ty13 l13) ∷ ‵ (froom ty12 l12 0) ∷ ‵ (fdies ty12 l12) ∷ ‵ (fat fullShare ty11 l11 0 (a-usize .val k)) ∷ ‵ (fdies ty11 l11) ∷ ‵ (fat fullShare ty10 l10 0 ((known-array a-Said 256) .val (said-at k))) ∷ ‵ (fdies ty10 l10) ∷ ‵ (fat fullShare ty9 l9 0 ((known-array a-AuditLine 200) .val (audit-at k))) ∷ ‵ (fdies ty9 l9) ∷ ‵ (fat fullShare ty8 l8 0 ((known-array a-LogLine 250) .val (log-at k))) ∷ ‵ (fdies ty8 l8) ∷ ‵ (fat fullShare ty7 l7 0 ((known-array a-ArchiveLine 15) .val (archive-at k))) ∷ ‵ (fdies ty7 l7) ∷ ‵ (fat fullShare ty6 l6 0 (a-State .val (s-at k))) ∷ ‵ (fdies ty6 l6) ∷ ‵ (fat fullShare ty5 l5 0 (a-usize .val n)) ∷ ‵ (fdies ty5 l5) ∷ ‵ (fat fullShare ty4 l4 0 ((known-array a-Order 256) .val orders)) ∷ ‵ (fdies ty4 l4) ∷ ‵ (froom ty3 l3 0) ∷ ‵ (fdies ty3 l3) ∷ ‵ (froom ty2 l2 0) ∷ ‵ (fdies ty2 l2) ∷ ‵ (froom ty1 l1 0) ∷ ‵ (fdies ty1 l1) ∷ ‵ (froom ty0 l0 0) ∷ ‵ (fdies ty0 l0) ∷ []) (runs (𝓣 .C) (𝓣 .Λ) E (rest-of (rest-of (M.turn-1))) (anyQ (Turned (k, (low, (f-s, (f-archive, (f-log, (f-audit, f-said)))))))))
-      taken n-fine k low f-s f-archive f-log f-audit f-said less =
+      taken : (n-fine : Fine a-usize n) (k : ℕ) (low : k ≤ n) (f-s : Fine a-State (s-at k)) (f-sound : Fine a-bool (sound-at k)) (f-archive : Fine (known-array a-ArchiveLine 15) (archive-at k)) (f-log : Fine (known-array a-LogLine 250) (log-at k)) (f-audit : Fine (known-array a-AuditLine 200) (audit-at k)) (f-outputs : Fine (known-array a-Output 256) (outputs-at k)) (less : T (ltb k n)) → Sq W (‵ (froom ty41 l41 0) ∷ ‵ (fdies ty41 l41) ∷ ‵ (froom ty40 l40 0) ∷ ‵ (fdies ty40 l40) ∷ ‵ (froom ty39 l39 0) ∷ ‵ (fdies ty39 l39) ∷ ‵ (froom ty38 l38 0) ∷ ‵ (fdies ty38 l38) ∷ ‵ (froom ty37 l37 0) ∷ ‵ (fdies ty37 l37) ∷ ‵ (froom ty36 l36 0) ∷ ‵ (fdies ty36 l36) ∷ ‵ (froom ty35 l35 0) ∷ ‵ (fdies ty35 l35) ∷ ‵ (froom ty34 l34 0) ∷ ‵ (fdies ty34 l34) ∷ ‵ (froom ty33 l33 0) ∷ ‵ (fdies ty33 l33) ∷ ‵ (froom ty32 l32 0) ∷ ‵ (fdies ty32 l32) ∷ ‵ (froom ty31 l31 0) ∷ ‵ (fdies ty31 l31) ∷ ‵ (froom ty30 l30 0) ∷ ‵ (fdies ty30 l30) ∷ ‵ (froom ty29 l29 0) ∷ ‵ (fdies ty29 l29) ∷ ‵ (froom ty28 l28 0) ∷ ‵ (fdies ty28 l28) ∷ ‵ (froom ty27 l27 0) ∷ ‵ (fdies ty27 l27) ∷ ‵ (froom ty26 l26 0) ∷ ‵ (fdies ty26 l26) ∷ ‵ (froom ty25 l25 0) ∷ ‵ (fdies ty25 l25) ∷ ‵ (fat fullShare ty24 l24 0 (a-bool .val (ltb k n))) ∷ ‵ (fdies ty24 l24) ∷ ‵ (froom ty23 l23 0) ∷ ‵ (fdies ty23 l23) ∷ ‵ (froom ty22 l22 0) ∷ ‵ (fdies ty22 l22) ∷ ‵ (froom ty21 l21 0) ∷ ‵ (fdies ty21 l21) ∷ ‵ (froom ty20 l20 0) ∷ ‵ (fdies ty20 l20) ∷ ‵ (froom ty19 l19 0) ∷ ‵ (fdies ty19 l19) ∷ ‵ (froom ty18 l18 0) ∷ ‵ (fdies ty18 l18) ∷ ‵ (froom ty17 l17 0) ∷ ‵ (fdies ty17 l17) ∷ ‵ (froom ty16 l16 0) ∷ ‵ (fdies ty16 l16) ∷ ‵ (froom ty15 l15 0) ∷ ‵ (fdies ty15 l15) ∷ ‵ (froom ty14 l14 0) ∷ ‵ (fdies ty14 l14) ∷ ‵ (froom ty13 l13 0) ∷ ‵ (fdies ty13 l13) ∷ ‵ (fat fullShare ty12 l12 0 (a-usize .val k)) ∷ ‵ (fdies ty12 l12) ∷ ‵ (fat fullShare ty11 l11 0 ((known-array a-Output 256) .val (outputs-at k))) ∷ ‵ (fdies ty11 l11) ∷ ‵ (fat fullShare ty10 l10 0 ((known-array a-AuditLine 200) .val (audit-at k))) ∷ ‵ (fdies ty10 l10) ∷ ‵ (fat fullShare ty9 l9 0 ((known-array a-LogLine 250) .val (log-at k))) ∷ ‵ (fdies ty9 l9) ∷ ‵ (fat fullShare ty8 l8 0 ((known-array a-ArchiveLine 15) .val (archive-at k))) ∷ ‵ (fdies ty8 l8) ∷ ‵ (fat fullShare ty7 l7 0 (a-bool .val (sound-at k))) ∷ ‵ (fdies ty7 l7) ∷ ‵ (fat fullShare ty6 l6 0 (a-State .val (s-at k))) ∷ ‵ (fdies ty6 l6) ∷ ‵ (fat fullShare ty5 l5 0 (a-usize .val n)) ∷ ‵ (fdies ty5 l5) ∷ ‵ (fat fullShare ty4 l4 0 ((known-array a-Input 256) .val inputs)) ∷ ‵ (fdies ty4 l4) ∷ ‵ (froom ty3 l3 0) ∷ ‵ (fdies ty3 l3) ∷ ‵ (froom ty2 l2 0) ∷ ‵ (fdies ty2 l2) ∷ ‵ (froom ty1 l1 0) ∷ ‵ (fdies ty1 l1) ∷ ‵ (froom ty0 l0 0) ∷ ‵ (fdies ty0 l0) ∷ []) (runs (𝓣 .C) (𝓣 .Λ) E (rest-of (rest-of (M.turn-1))) (anyQ (Turned (k, (low, (f-s, (f-sound, (f-archive, (f-log, (f-audit, f-outputs))))))))))
+      taken n-fine k low f-s f-sound f-archive f-log f-audit f-outputs less =
           forget ! 34 refl $
-          turn-1 n-fine k low f-s f-archive f-log f-audit f-said less
+          turn-1 n-fine k low f-s f-sound f-archive f-log f-audit f-outputs less
 
-      turn : (n-fine : Fine a-usize n) (k : ℕ) (low : k ≤ n) (f-s : Fine a-State (s-at k)) (f-archive : Fine (known-array a-ArchiveLine 15) (archive-at k)) (f-log : Fine (known-array a-LogLine 250) (log-at k)) (f-audit : Fine (known-array a-AuditLine 200) (audit-at k)) (f-said : Fine (known-array a-Said 256) (said-at k)) → Sq W (‵ (froom ty38 l38 0) ∷ ‵ (fdies ty38 l38) ∷ ‵ (froom ty37 l37 0) ∷ ‵ (fdies ty37 l37) ∷ ‵ (froom ty36 l36 0) ∷ ‵ (fdies ty36 l36) ∷ ‵ (froom ty35 l35 0) ∷ ‵ (fdies ty35 l35) ∷ ‵ (froom ty34 l34 0) ∷ ‵ (fdies ty34 l34) ∷ ‵ (froom ty33 l33 0) ∷ ‵ (fdies ty33 l33) ∷ ‵ (froom ty32 l32 0) ∷ ‵ (fdies ty32 l32) ∷ ‵ (froom ty31 l31 0) ∷ ‵ (fdies ty31 l31) ∷ ‵ (froom ty30 l30 0) ∷ ‵ (fdies ty30 l30) ∷ ‵ (froom ty29 l29 0) ∷ ‵ (fdies ty29 l29) ∷ ‵ (froom ty28 l28 0) ∷ ‵ (fdies ty28 l28) ∷ ‵ (froom ty27 l27 0) ∷ ‵ (fdies ty27 l27) ∷ ‵ (froom ty26 l26 0) ∷ ‵ (fdies ty26 l26) ∷ ‵ (froom ty25 l25 0) ∷ ‵ (fdies ty25 l25) ∷ ‵ (froom ty24 l24 0) ∷ ‵ (fdies ty24 l24) ∷ ‵ (froom ty23 l23 0) ∷ ‵ (fdies ty23 l23) ∷ ‵ (froom ty22 l22 0) ∷ ‵ (fdies ty22 l22) ∷ ‵ (froom ty21 l21 0) ∷ ‵ (fdies ty21 l21) ∷ ‵ (froom ty20 l20 0) ∷ ‵ (fdies ty20 l20) ∷ ‵ (froom ty19 l19 0) ∷ ‵ (fdies ty19 l19) ∷ ‵ (froom ty18 l18 0) ∷ ‵ (fdies ty18 l18) ∷ ‵ (froom ty17 l17 0) ∷ ‵ (fdies ty17 l17) ∷ ‵ (froom ty16 l16 0) ∷ ‵ (fdies ty16 l16) ∷ ‵ (froom ty15 l15 0) ∷ ‵ (fdies ty15 l15) ∷ ‵ (froom ty14 l14 0) ∷ ‵ (fdies ty14 l14) ∷ ‵ (froom ty13 l13 0) ∷ ‵ (fdies ty13 l13) ∷ ‵ (froom ty12 l12 0) ∷ ‵ (fdies ty12 l12) ∷ ‵ (fat fullShare ty11 l11 0 (a-usize .val k)) ∷ ‵ (fdies ty11 l11) ∷ ‵ (fat fullShare ty10 l10 0 ((known-array a-Said 256) .val (said-at k))) ∷ ‵ (fdies ty10 l10) ∷ ‵ (fat fullShare ty9 l9 0 ((known-array a-AuditLine 200) .val (audit-at k))) ∷ ‵ (fdies ty9 l9) ∷ ‵ (fat fullShare ty8 l8 0 ((known-array a-LogLine 250) .val (log-at k))) ∷ ‵ (fdies ty8 l8) ∷ ‵ (fat fullShare ty7 l7 0 ((known-array a-ArchiveLine 15) .val (archive-at k))) ∷ ‵ (fdies ty7 l7) ∷ ‵ (fat fullShare ty6 l6 0 (a-State .val (s-at k))) ∷ ‵ (fdies ty6 l6) ∷ ‵ (fat fullShare ty5 l5 0 (a-usize .val n)) ∷ ‵ (fdies ty5 l5) ∷ ‵ (fat fullShare ty4 l4 0 ((known-array a-Order 256) .val orders)) ∷ ‵ (fdies ty4 l4) ∷ ‵ (froom ty3 l3 0) ∷ ‵ (fdies ty3 l3) ∷ ‵ (froom ty2 l2 0) ∷ ‵ (fdies ty2 l2) ∷ ‵ (froom ty1 l1 0) ∷ ‵ (fdies ty1 l1) ∷ ‵ (froom ty0 l0 0) ∷ ‵ (fdies ty0 l0) ∷ []) (runs (𝓣 .C) (𝓣 .Λ) E M.turn-1 (anyQ (Turned (k, (low, (f-s, (f-archive, (f-log, (f-audit, f-said)))))))))
+      turn : (n-fine : Fine a-usize n) (k : ℕ) (low : k ≤ n) (f-s : Fine a-State (s-at k)) (f-sound : Fine a-bool (sound-at k)) (f-archive : Fine (known-array a-ArchiveLine 15) (archive-at k)) (f-log : Fine (known-array a-LogLine 250) (log-at k)) (f-audit : Fine (known-array a-AuditLine 200) (audit-at k)) (f-outputs : Fine (known-array a-Output 256) (outputs-at k)) → Sq W (‵ (froom ty41 l41 0) ∷ ‵ (fdies ty41 l41) ∷ ‵ (froom ty40 l40 0) ∷ ‵ (fdies ty40 l40) ∷ ‵ (froom ty39 l39 0) ∷ ‵ (fdies ty39 l39) ∷ ‵ (froom ty38 l38 0) ∷ ‵ (fdies ty38 l38) ∷ ‵ (froom ty37 l37 0) ∷ ‵ (fdies ty37 l37) ∷ ‵ (froom ty36 l36 0) ∷ ‵ (fdies ty36 l36) ∷ ‵ (froom ty35 l35 0) ∷ ‵ (fdies ty35 l35) ∷ ‵ (froom ty34 l34 0) ∷ ‵ (fdies ty34 l34) ∷ ‵ (froom ty33 l33 0) ∷ ‵ (fdies ty33 l33) ∷ ‵ (froom ty32 l32 0) ∷ ‵ (fdies ty32 l32) ∷ ‵ (froom ty31 l31 0) ∷ ‵ (fdies ty31 l31) ∷ ‵ (froom ty30 l30 0) ∷ ‵ (fdies ty30 l30) ∷ ‵ (froom ty29 l29 0) ∷ ‵ (fdies ty29 l29) ∷ ‵ (froom ty28 l28 0) ∷ ‵ (fdies ty28 l28) ∷ ‵ (froom ty27 l27 0) ∷ ‵ (fdies ty27 l27) ∷ ‵ (froom ty26 l26 0) ∷ ‵ (fdies ty26 l26) ∷ ‵ (froom ty25 l25 0) ∷ ‵ (fdies ty25 l25) ∷ ‵ (froom ty24 l24 0) ∷ ‵ (fdies ty24 l24) ∷ ‵ (froom ty23 l23 0) ∷ ‵ (fdies ty23 l23) ∷ ‵ (froom ty22 l22 0) ∷ ‵ (fdies ty22 l22) ∷ ‵ (froom ty21 l21 0) ∷ ‵ (fdies ty21 l21) ∷ ‵ (froom ty20 l20 0) ∷ ‵ (fdies ty20 l20) ∷ ‵ (froom ty19 l19 0) ∷ ‵ (fdies ty19 l19) ∷ ‵ (froom ty18 l18 0) ∷ ‵ (fdies ty18 l18) ∷ ‵ (froom ty17 l17 0) ∷ ‵ (fdies ty17 l17) ∷ ‵ (froom ty16 l16 0) ∷ ‵ (fdies ty16 l16) ∷ ‵ (froom ty15 l15 0) ∷ ‵ (fdies ty15 l15) ∷ ‵ (froom ty14 l14 0) ∷ ‵ (fdies ty14 l14) ∷ ‵ (froom ty13 l13 0) ∷ ‵ (fdies ty13 l13) ∷ ‵ (fat fullShare ty12 l12 0 (a-usize .val k)) ∷ ‵ (fdies ty12 l12) ∷ ‵ (fat fullShare ty11 l11 0 ((known-array a-Output 256) .val (outputs-at k))) ∷ ‵ (fdies ty11 l11) ∷ ‵ (fat fullShare ty10 l10 0 ((known-array a-AuditLine 200) .val (audit-at k))) ∷ ‵ (fdies ty10 l10) ∷ ‵ (fat fullShare ty9 l9 0 ((known-array a-LogLine 250) .val (log-at k))) ∷ ‵ (fdies ty9 l9) ∷ ‵ (fat fullShare ty8 l8 0 ((known-array a-ArchiveLine 15) .val (archive-at k))) ∷ ‵ (fdies ty8 l8) ∷ ‵ (fat fullShare ty7 l7 0 (a-bool .val (sound-at k))) ∷ ‵ (fdies ty7 l7) ∷ ‵ (fat fullShare ty6 l6 0 (a-State .val (s-at k))) ∷ ‵ (fdies ty6 l6) ∷ ‵ (fat fullShare ty5 l5 0 (a-usize .val n)) ∷ ‵ (fdies ty5 l5) ∷ ‵ (fat fullShare ty4 l4 0 ((known-array a-Input 256) .val inputs)) ∷ ‵ (fdies ty4 l4) ∷ ‵ (froom ty3 l3 0) ∷ ‵ (fdies ty3 l3) ∷ ‵ (froom ty2 l2 0) ∷ ‵ (fdies ty2 l2) ∷ ‵ (froom ty1 l1 0) ∷ ‵ (fdies ty1 l1) ∷ ‵ (froom ty0 l0 0) ∷ ‵ (fdies ty0 l0) ∷ []) (runs (𝓣 .C) (𝓣 .Λ) E M.turn-1 (anyQ (Turned (k, (low, (f-s, (f-sound, (f-archive, (f-log, (f-audit, f-outputs))))))))))
       unfolding afterTurn
-      turn n-fine k low f-s f-archive f-log f-audit f-said =
-          assigns ! (bin ! (load ! (from ! (stop !)) (look ! 54 refl)) (load ! (from ! (stop !)) (look ! 66 refl)) tt) (from ! (stop !)) (init ! 34 refl (tt, tt)) $
+      turn n-fine k low f-s f-sound f-archive f-log f-audit f-outputs =
+          assigns ! (bin ! (load ! (from ! (stop !)) (look ! 58 refl)) (load ! (from ! (stop !)) (look ! 72 refl)) tt) (from ! (stop !)) (init ! 34 refl (tt, tt)) $
           first ! $ branches ! (load ! (from ! (stop !)) (look ! 34 refl))
-          (λ less. skips ! $ exec ! (𝓣 .C) (𝓣 .Λ) E (rest-of (rest-of (M.turn-1))) (anyQ (Turned (k, (low, (f-s, (f-archive, (f-log, (f-audit, f-said)))))))) $ taken n-fine k low f-s f-archive f-log f-audit f-said less)
-          (λ over. jumps ! $ exec ! (𝓣 .C) (𝓣 .Λ) E M.t-14 (atRet E Post) $ left-loop n-fine k low f-s f-archive f-log f-audit f-said (le-antisymm low (nltb→le k n over)))
+          (λ less. skips ! $ exec ! (𝓣 .C) (𝓣 .Λ) E (rest-of (rest-of (M.turn-1))) (anyQ (Turned (k, (low, (f-s, (f-sound, (f-archive, (f-log, (f-audit, f-outputs))))))))) $ taken n-fine k low f-s f-sound f-archive f-log f-audit f-outputs less)
+          (λ over. jumps ! $ exec ! (𝓣 .C) (𝓣 .Λ) E M.t-15 (atRet E Post) $ left-loop n-fine k low f-s f-sound f-archive f-log f-audit f-outputs (le-antisymm low (nltb→le k n over)))
 
       turns : Fine a-usize n → (i : Upto) → Sq W (At i) (runs (𝓣 .C) (𝓣 .Λ) E M.turn-1 (anyQ (Turned i)))
-      turns n-fine i = turn n-fine (i .0) (i .1 .0) (i .1 .1 .0) (i .1 .1 .1 .0) (i .1 .1 .1 .1 .0) (i .1 .1 .1 .1 .1 .0) (i .1 .1 .1 .1 .1 .1)
+      turns n-fine i = turn n-fine (i .0) (i .1 .0) (i .1 .1 .0) (i .1 .1 .1 .0) (i .1 .1 .1 .1 .0) (i .1 .1 .1 .1 .1 .0) (i .1 .1 .1 .1 .1 .1 .0) (i .1 .1 .1 .1 .1 .1 .1)
 
-      from-0 : Sq W (‵ (froom ty38 l38 0) ∷ ‵ (fdies ty38 l38) ∷ ‵ (froom ty37 l37 0) ∷ ‵ (fdies ty37 l37) ∷ ‵ (froom ty36 l36 0) ∷ ‵ (fdies ty36 l36) ∷ ‵ (froom ty35 l35 0) ∷ ‵ (fdies ty35 l35) ∷ ‵ (froom ty34 l34 0) ∷ ‵ (fdies ty34 l34) ∷ ‵ (froom ty33 l33 0) ∷ ‵ (fdies ty33 l33) ∷ ‵ (froom ty32 l32 0) ∷ ‵ (fdies ty32 l32) ∷ ‵ (froom ty31 l31 0) ∷ ‵ (fdies ty31 l31) ∷ ‵ (froom ty30 l30 0) ∷ ‵ (fdies ty30 l30) ∷ ‵ (froom ty29 l29 0) ∷ ‵ (fdies ty29 l29) ∷ ‵ (froom ty28 l28 0) ∷ ‵ (fdies ty28 l28) ∷ ‵ (froom ty27 l27 0) ∷ ‵ (fdies ty27 l27) ∷ ‵ (froom ty26 l26 0) ∷ ‵ (fdies ty26 l26) ∷ ‵ (froom ty25 l25 0) ∷ ‵ (fdies ty25 l25) ∷ ‵ (froom ty24 l24 0) ∷ ‵ (fdies ty24 l24) ∷ ‵ (froom ty23 l23 0) ∷ ‵ (fdies ty23 l23) ∷ ‵ (froom ty22 l22 0) ∷ ‵ (fdies ty22 l22) ∷ ‵ (froom ty21 l21 0) ∷ ‵ (fdies ty21 l21) ∷ ‵ (froom ty20 l20 0) ∷ ‵ (fdies ty20 l20) ∷ ‵ (froom ty19 l19 0) ∷ ‵ (fdies ty19 l19) ∷ ‵ (froom ty18 l18 0) ∷ ‵ (fdies ty18 l18) ∷ ‵ (froom ty17 l17 0) ∷ ‵ (fdies ty17 l17) ∷ ‵ (froom ty16 l16 0) ∷ ‵ (fdies ty16 l16) ∷ ‵ (froom ty15 l15 0) ∷ ‵ (fdies ty15 l15) ∷ ‵ (froom ty14 l14 0) ∷ ‵ (fdies ty14 l14) ∷ ‵ (froom ty13 l13 0) ∷ ‵ (fdies ty13 l13) ∷ ‵ (froom ty12 l12 0) ∷ ‵ (fdies ty12 l12) ∷ ‵ (froom ty11 l11 0) ∷ ‵ (fdies ty11 l11) ∷ ‵ (froom ty10 l10 0) ∷ ‵ (fdies ty10 l10) ∷ ‵ (froom ty9 l9 0) ∷ ‵ (fdies ty9 l9) ∷ ‵ (froom ty8 l8 0) ∷ ‵ (fdies ty8 l8) ∷ ‵ (froom ty7 l7 0) ∷ ‵ (fdies ty7 l7) ∷ ‵ (froom ty6 l6 0) ∷ ‵ (fdies ty6 l6) ∷ ‵ (froom ty5 l5 0) ∷ ‵ (fdies ty5 l5) ∷ ‵ (froom ty4 l4 0) ∷ ‵ (fdies ty4 l4) ∷ ‵ (fat fullShare ty3 l3 0 (a-usize .val count)) ∷ ‵ (fdies ty3 l3) ∷ ‵ (fat fullShare ty2 l2 0 ((known-array a-Order 256) .val orders)) ∷ ‵ (fdies ty2 l2) ∷ ‵ (fat fullShare ty1 l1 0 (a-Desk .val d)) ∷ ‵ (fdies ty1 l1) ∷ ‵ (froom ty0 l0 0) ∷ ‵ (fdies ty0 l0) ∷ []) (runs (𝓣 .C) (𝓣 .Λ) E (code.function .body) (atRet E Post))
-      unfolding after saidUpTo
+      from-0 : Sq W (‵ (froom ty41 l41 0) ∷ ‵ (fdies ty41 l41) ∷ ‵ (froom ty40 l40 0) ∷ ‵ (fdies ty40 l40) ∷ ‵ (froom ty39 l39 0) ∷ ‵ (fdies ty39 l39) ∷ ‵ (froom ty38 l38 0) ∷ ‵ (fdies ty38 l38) ∷ ‵ (froom ty37 l37 0) ∷ ‵ (fdies ty37 l37) ∷ ‵ (froom ty36 l36 0) ∷ ‵ (fdies ty36 l36) ∷ ‵ (froom ty35 l35 0) ∷ ‵ (fdies ty35 l35) ∷ ‵ (froom ty34 l34 0) ∷ ‵ (fdies ty34 l34) ∷ ‵ (froom ty33 l33 0) ∷ ‵ (fdies ty33 l33) ∷ ‵ (froom ty32 l32 0) ∷ ‵ (fdies ty32 l32) ∷ ‵ (froom ty31 l31 0) ∷ ‵ (fdies ty31 l31) ∷ ‵ (froom ty30 l30 0) ∷ ‵ (fdies ty30 l30) ∷ ‵ (froom ty29 l29 0) ∷ ‵ (fdies ty29 l29) ∷ ‵ (froom ty28 l28 0) ∷ ‵ (fdies ty28 l28) ∷ ‵ (froom ty27 l27 0) ∷ ‵ (fdies ty27 l27) ∷ ‵ (froom ty26 l26 0) ∷ ‵ (fdies ty26 l26) ∷ ‵ (froom ty25 l25 0) ∷ ‵ (fdies ty25 l25) ∷ ‵ (froom ty24 l24 0) ∷ ‵ (fdies ty24 l24) ∷ ‵ (froom ty23 l23 0) ∷ ‵ (fdies ty23 l23) ∷ ‵ (froom ty22 l22 0) ∷ ‵ (fdies ty22 l22) ∷ ‵ (froom ty21 l21 0) ∷ ‵ (fdies ty21 l21) ∷ ‵ (froom ty20 l20 0) ∷ ‵ (fdies ty20 l20) ∷ ‵ (froom ty19 l19 0) ∷ ‵ (fdies ty19 l19) ∷ ‵ (froom ty18 l18 0) ∷ ‵ (fdies ty18 l18) ∷ ‵ (froom ty17 l17 0) ∷ ‵ (fdies ty17 l17) ∷ ‵ (froom ty16 l16 0) ∷ ‵ (fdies ty16 l16) ∷ ‵ (froom ty15 l15 0) ∷ ‵ (fdies ty15 l15) ∷ ‵ (froom ty14 l14 0) ∷ ‵ (fdies ty14 l14) ∷ ‵ (froom ty13 l13 0) ∷ ‵ (fdies ty13 l13) ∷ ‵ (froom ty12 l12 0) ∷ ‵ (fdies ty12 l12) ∷ ‵ (froom ty11 l11 0) ∷ ‵ (fdies ty11 l11) ∷ ‵ (froom ty10 l10 0) ∷ ‵ (fdies ty10 l10) ∷ ‵ (froom ty9 l9 0) ∷ ‵ (fdies ty9 l9) ∷ ‵ (froom ty8 l8 0) ∷ ‵ (fdies ty8 l8) ∷ ‵ (froom ty7 l7 0) ∷ ‵ (fdies ty7 l7) ∷ ‵ (froom ty6 l6 0) ∷ ‵ (fdies ty6 l6) ∷ ‵ (froom ty5 l5 0) ∷ ‵ (fdies ty5 l5) ∷ ‵ (froom ty4 l4 0) ∷ ‵ (fdies ty4 l4) ∷ ‵ (fat fullShare ty3 l3 0 (a-usize .val count)) ∷ ‵ (fdies ty3 l3) ∷ ‵ (fat fullShare ty2 l2 0 ((known-array a-Input 256) .val inputs)) ∷ ‵ (fdies ty2 l2) ∷ ‵ (fat fullShare ty1 l1 0 (a-Desk .val d)) ∷ ‵ (fdies ty1 l1) ∷ ‵ (froom ty0 l0 0) ∷ ‵ (fdies ty0 l0) ∷ []) (runs (𝓣 .C) (𝓣 .Λ) E (code.function .body) (atRet E Post))
+      unfolding after soundAfter outputsUpTo
       from-0 =
-          assigns ! (of-opd ! (load ! (from ! (stop !)) (look ! 72 refl))) (from ! (stop !)) (init ! 68 refl ((known-array a-Order 256) .lawful 𝓤 H A W .typed orders _ orders-fine .0)) $
-          calls-value ! fm (Says-in-block 𝓤 H A at-mem run) known-in-block to-in-block (a-usize .val (min count block)) _ (asks-in-block count-fine) gives-in-block (and-then ! (load ! (from ! (stop !)) (look ! 71 refl)) (no-more !)) (λ t-in-block.
-          land ! (from ! (stop !)) (init ! 66 refl (a-usize .lawful 𝓤 H A W .typed (min count block) _ t-in-block .0)) $
-          calls-value ! fm (Says-state-of 𝓤 H A at-mem run) known-state-of to-state-of (a-State .val (d .state)) _ (asks-state-of d-fine) gives-state-of (and-then ! (load ! (from ! (stop !)) (look ! 75 refl)) (no-more !)) (λ t-state-of.
-          land ! (from ! (stop !)) (init ! 64 refl (a-State .lawful 𝓤 H A W .typed (d .state) _ t-state-of .0)) $
-          calls-value ! fm (Says-archive-of 𝓤 H A at-mem run) known-archive-of to-archive-of ((known-array a-ArchiveLine 15) .val (d .archive)) _ (asks-archive-of d-fine) gives-archive-of (and-then ! (load ! (from ! (stop !)) (look ! 75 refl)) (no-more !)) (λ t-archive-of.
+          assigns ! (of-opd ! (load ! (from ! (stop !)) (look ! 78 refl))) (from ! (stop !)) (init ! 74 refl ((known-array a-Input 256) .lawful 𝓤 H A W .typed inputs _ inputs-fine .0)) $
+          calls-value ! fm (Says-in-block 𝓤 H A at-mem run) known-in-block to-in-block (a-usize .val (min count block)) _ (asks-in-block count-fine) gives-in-block (and-then ! (load ! (from ! (stop !)) (look ! 77 refl)) (no-more !)) (λ t-in-block.
+          land ! (from ! (stop !)) (init ! 72 refl (a-usize .lawful 𝓤 H A W .typed (min count block) _ t-in-block .0)) $
+          calls-value ! fm (Says-state-of 𝓤 H A at-mem run) known-state-of to-state-of (a-State .val (d .state)) _ (asks-state-of d-fine) gives-state-of (and-then ! (load ! (from ! (stop !)) (look ! 81 refl)) (no-more !)) (λ t-state-of.
+          land ! (from ! (stop !)) (init ! 70 refl (a-State .lawful 𝓤 H A W .typed (d .state) _ t-state-of .0)) $
+          calls-value ! fm (Says-whole 𝓤 H A at-mem run) known-whole to-whole (a-bool .val (wholeB (d .state))) _ (asks-whole t-state-of) gives-whole (and-then ! (load ! (from ! (stop !)) (look ! 71 refl)) (no-more !)) (λ t-whole.
+          land ! (from ! (stop !)) (init ! 68 refl (a-bool .lawful 𝓤 H A W .typed (wholeB (d .state)) _ t-whole .0)) $
+          calls-value ! fm (Says-archive-of 𝓤 H A at-mem run) known-archive-of to-archive-of ((known-array a-ArchiveLine 15) .val (d .archive)) _ (asks-archive-of d-fine) gives-archive-of (and-then ! (load ! (from ! (stop !)) (look ! 81 refl)) (no-more !)) (λ t-archive-of.
           land ! (from ! (stop !)) (init ! 42 refl ((known-array a-ArchiveLine 15) .lawful 𝓤 H A W .typed (d .archive) _ t-archive-of .0)) $
-          assigns ! (of-opd ! (load ! (from ! (stop !)) (look ! 42 refl))) (from ! (stop !)) (init ! 62 refl ((known-array a-ArchiveLine 15) .lawful 𝓤 H A W .typed (d .archive) _ t-archive-of .0)) $
-          calls-value ! fm (Says-log-of 𝓤 H A at-mem run) known-log-of to-log-of ((known-array a-LogLine 250) .val (d .log)) _ (asks-log-of d-fine) gives-log-of (and-then ! (load ! (from ! (stop !)) (look ! 75 refl)) (no-more !)) (λ t-log-of.
+          assigns ! (of-opd ! (load ! (from ! (stop !)) (look ! 42 refl))) (from ! (stop !)) (init ! 66 refl ((known-array a-ArchiveLine 15) .lawful 𝓤 H A W .typed (d .archive) _ t-archive-of .0)) $
+          calls-value ! fm (Says-log-of 𝓤 H A at-mem run) known-log-of to-log-of ((known-array a-LogLine 250) .val (d .log)) _ (asks-log-of d-fine) gives-log-of (and-then ! (load ! (from ! (stop !)) (look ! 81 refl)) (no-more !)) (λ t-log-of.
           land ! (from ! (stop !)) (init ! 40 refl ((known-array a-LogLine 250) .lawful 𝓤 H A W .typed (d .log) _ t-log-of .0)) $
-          assigns ! (of-opd ! (load ! (from ! (stop !)) (look ! 40 refl))) (from ! (stop !)) (init ! 60 refl ((known-array a-LogLine 250) .lawful 𝓤 H A W .typed (d .log) _ t-log-of .0)) $
-          calls-value ! fm (Says-audit-of 𝓤 H A at-mem run) known-audit-of to-audit-of ((known-array a-AuditLine 200) .val (d .audit)) _ (asks-audit-of d-fine) gives-audit-of (and-then ! (load ! (from ! (stop !)) (look ! 75 refl)) (no-more !)) (λ t-audit-of.
+          assigns ! (of-opd ! (load ! (from ! (stop !)) (look ! 40 refl))) (from ! (stop !)) (init ! 64 refl ((known-array a-LogLine 250) .lawful 𝓤 H A W .typed (d .log) _ t-log-of .0)) $
+          calls-value ! fm (Says-audit-of 𝓤 H A at-mem run) known-audit-of to-audit-of ((known-array a-AuditLine 200) .val (d .audit)) _ (asks-audit-of d-fine) gives-audit-of (and-then ! (load ! (from ! (stop !)) (look ! 81 refl)) (no-more !)) (λ t-audit-of.
           land ! (from ! (stop !)) (init ! 38 refl ((known-array a-AuditLine 200) .lawful 𝓤 H A W .typed (d .audit) _ t-audit-of .0)) $
-          assigns ! (of-opd ! (load ! (from ! (stop !)) (look ! 38 refl))) (from ! (stop !)) (init ! 58 refl ((known-array a-AuditLine 200) .lawful 𝓤 H A W .typed (d .audit) _ t-audit-of .0)) $
-          calls-value ! fm (Says-nothing-said 𝓤 H A at-mem run) known-nothing-said to-nothing-said ((known-array a-Said 256) .val (replicate block nothingSaid)) _ (asks-nothing-said) gives-nothing-said (no-more !) (λ t-nothing-said.
-          land ! (from ! (stop !)) (init ! 36 refl ((known-array a-Said 256) .lawful 𝓤 H A W .typed (replicate block nothingSaid) _ t-nothing-said .0)) $
-          assigns ! (of-opd ! (load ! (from ! (stop !)) (look ! 36 refl))) (from ! (stop !)) (init ! 56 refl ((known-array a-Said 256) .lawful 𝓤 H A W .typed (replicate block nothingSaid) _ t-nothing-said .0)) $
-          assigns ! (of-opd ! (lit ! tt)) (from ! (stop !)) (init ! 54 refl (a-u64 .lawful 𝓤 H A W .typed 0 _ (refl, lit< tt) .0)) $
-          forget ! 74 refl $ forget ! 72 refl $ forget ! 70 refl $ forget ! 42 refl $ forget ! 40 refl $ forget ! 38 refl $ forget ! 36 refl $
-          keep ! (0 ∷ 1 ∷ 2 ∷ 3 ∷ 4 ∷ 5 ∷ 6 ∷ 7 ∷ 8 ∷ 9 ∷ 10 ∷ 11 ∷ 12 ∷ 13 ∷ 14 ∷ 15 ∷ 16 ∷ 17 ∷ 18 ∷ 19 ∷ 20 ∷ 21 ∷ 22 ∷ 23 ∷ 24 ∷ 25 ∷ 26 ∷ 27 ∷ 28 ∷ 29 ∷ 30 ∷ 31 ∷ 32 ∷ 33 ∷ 34 ∷ 35 ∷ 36 ∷ 37 ∷ 38 ∷ 39 ∷ 40 ∷ 41 ∷ 42 ∷ 43 ∷ 44 ∷ 45 ∷ 46 ∷ 47 ∷ 48 ∷ 49 ∷ 50 ∷ 51 ∷ 52 ∷ 53 ∷ 54 ∷ 55 ∷ 56 ∷ 57 ∷ 58 ∷ 59 ∷ 60 ∷ 61 ∷ 62 ∷ 63 ∷ 64 ∷ 65 ∷ 66 ∷ 67 ∷ 68 ∷ 69 ∷ 70 ∷ 71 ∷ 72 ∷ 73 ∷ 74 ∷ 75 ∷ 76 ∷ 77 ∷ []) $
-          first ! $ blocks ! $ loops ! 𝓣 Nearer Nearer-wf At (turns t-in-block) (0, (zero-le, (t-state-of, (t-archive-of, (t-log-of, (t-audit-of, t-nothing-said))))))))))))
+          assigns ! (of-opd ! (load ! (from ! (stop !)) (look ! 38 refl))) (from ! (stop !)) (init ! 62 refl ((known-array a-AuditLine 200) .lawful 𝓤 H A W .typed (d .audit) _ t-audit-of .0)) $
+          calls-value ! fm (Says-no-outputs 𝓤 H A at-mem run) known-no-outputs to-no-outputs ((known-array a-Output 256) .val (replicate block noOutput)) _ (asks-no-outputs) gives-no-outputs (no-more !) (λ t-no-outputs.
+          land ! (from ! (stop !)) (init ! 36 refl ((known-array a-Output 256) .lawful 𝓤 H A W .typed (replicate block noOutput) _ t-no-outputs .0)) $
+          assigns ! (of-opd ! (load ! (from ! (stop !)) (look ! 36 refl))) (from ! (stop !)) (init ! 60 refl ((known-array a-Output 256) .lawful 𝓤 H A W .typed (replicate block noOutput) _ t-no-outputs .0)) $
+          assigns ! (of-opd ! (lit ! tt)) (from ! (stop !)) (init ! 58 refl (a-u64 .lawful 𝓤 H A W .typed 0 _ (refl, lit< tt) .0)) $
+          forget ! 80 refl $ forget ! 78 refl $ forget ! 76 refl $ forget ! 42 refl $ forget ! 40 refl $ forget ! 38 refl $ forget ! 36 refl $
+          keep ! (0 ∷ 1 ∷ 2 ∷ 3 ∷ 4 ∷ 5 ∷ 6 ∷ 7 ∷ 8 ∷ 9 ∷ 10 ∷ 11 ∷ 12 ∷ 13 ∷ 14 ∷ 15 ∷ 16 ∷ 17 ∷ 18 ∷ 19 ∷ 20 ∷ 21 ∷ 22 ∷ 23 ∷ 24 ∷ 25 ∷ 26 ∷ 27 ∷ 28 ∷ 29 ∷ 30 ∷ 31 ∷ 32 ∷ 33 ∷ 34 ∷ 35 ∷ 36 ∷ 37 ∷ 38 ∷ 39 ∷ 40 ∷ 41 ∷ 42 ∷ 43 ∷ 44 ∷ 45 ∷ 46 ∷ 47 ∷ 48 ∷ 49 ∷ 50 ∷ 51 ∷ 52 ∷ 53 ∷ 54 ∷ 55 ∷ 56 ∷ 57 ∷ 58 ∷ 59 ∷ 60 ∷ 61 ∷ 62 ∷ 63 ∷ 64 ∷ 65 ∷ 66 ∷ 67 ∷ 68 ∷ 69 ∷ 70 ∷ 71 ∷ 72 ∷ 73 ∷ 74 ∷ 75 ∷ 76 ∷ 77 ∷ 78 ∷ 79 ∷ 80 ∷ 81 ∷ 82 ∷ 83 ∷ []) $
+          first ! $ blocks ! $ loops ! 𝓣 Nearer Nearer-wf At (turns t-in-block) (0, (zero-le, (t-state-of, (t-whole, (t-archive-of, (t-log-of, (t-audit-of, t-no-outputs))))))))))))))
 
-      passed : Sq W (‵ (froom ty38 l38 0) ∷ ‵ (fdies ty38 l38) ∷ ‵ (froom ty37 l37 0) ∷ ‵ (fdies ty37 l37) ∷ ‵ (froom ty36 l36 0) ∷ ‵ (fdies ty36 l36) ∷ ‵ (froom ty35 l35 0) ∷ ‵ (fdies ty35 l35) ∷ ‵ (froom ty34 l34 0) ∷ ‵ (fdies ty34 l34) ∷ ‵ (froom ty33 l33 0) ∷ ‵ (fdies ty33 l33) ∷ ‵ (froom ty32 l32 0) ∷ ‵ (fdies ty32 l32) ∷ ‵ (froom ty31 l31 0) ∷ ‵ (fdies ty31 l31) ∷ ‵ (froom ty30 l30 0) ∷ ‵ (fdies ty30 l30) ∷ ‵ (froom ty29 l29 0) ∷ ‵ (fdies ty29 l29) ∷ ‵ (froom ty28 l28 0) ∷ ‵ (fdies ty28 l28) ∷ ‵ (froom ty27 l27 0) ∷ ‵ (fdies ty27 l27) ∷ ‵ (froom ty26 l26 0) ∷ ‵ (fdies ty26 l26) ∷ ‵ (froom ty25 l25 0) ∷ ‵ (fdies ty25 l25) ∷ ‵ (froom ty24 l24 0) ∷ ‵ (fdies ty24 l24) ∷ ‵ (froom ty23 l23 0) ∷ ‵ (fdies ty23 l23) ∷ ‵ (froom ty22 l22 0) ∷ ‵ (fdies ty22 l22) ∷ ‵ (froom ty21 l21 0) ∷ ‵ (fdies ty21 l21) ∷ ‵ (froom ty20 l20 0) ∷ ‵ (fdies ty20 l20) ∷ ‵ (froom ty19 l19 0) ∷ ‵ (fdies ty19 l19) ∷ ‵ (froom ty18 l18 0) ∷ ‵ (fdies ty18 l18) ∷ ‵ (froom ty17 l17 0) ∷ ‵ (fdies ty17 l17) ∷ ‵ (froom ty16 l16 0) ∷ ‵ (fdies ty16 l16) ∷ ‵ (froom ty15 l15 0) ∷ ‵ (fdies ty15 l15) ∷ ‵ (froom ty14 l14 0) ∷ ‵ (fdies ty14 l14) ∷ ‵ (froom ty13 l13 0) ∷ ‵ (fdies ty13 l13) ∷ ‵ (froom ty12 l12 0) ∷ ‵ (fdies ty12 l12) ∷ ‵ (froom ty11 l11 0) ∷ ‵ (fdies ty11 l11) ∷ ‵ (froom ty10 l10 0) ∷ ‵ (fdies ty10 l10) ∷ ‵ (froom ty9 l9 0) ∷ ‵ (fdies ty9 l9) ∷ ‵ (froom ty8 l8 0) ∷ ‵ (fdies ty8 l8) ∷ ‵ (froom ty7 l7 0) ∷ ‵ (fdies ty7 l7) ∷ ‵ (froom ty6 l6 0) ∷ ‵ (fdies ty6 l6) ∷ ‵ (froom ty5 l5 0) ∷ ‵ (fdies ty5 l5) ∷ ‵ (froom ty4 l4 0) ∷ ‵ (fdies ty4 l4) ∷ ‵ (fat fullShare ty3 l3 0 (a-usize .val count)) ∷ ‵ (fdies ty3 l3) ∷ ‵ (fat fullShare ty2 l2 0 ((known-array a-Order 256) .val orders)) ∷ ‵ (fdies ty2 l2) ∷ ‵ (fat fullShare ty1 l1 0 (a-Desk .val d)) ∷ ‵ (fdies ty1 l1) ∷ ‵ (froom ty0 l0 0) ∷ ‵ (fdies ty0 l0) ∷ ‵ ftrue ∷ ‵ (owns (Desk′.the-row ∷ (Array Order′.the-row 256) ∷ usize ∷ []) args machine) ∷ []) (runs (𝓣 .C) (𝓣 .Λ) E (code.function .body) (atRet E Post))
+      passed : Sq W (‵ (froom ty41 l41 0) ∷ ‵ (fdies ty41 l41) ∷ ‵ (froom ty40 l40 0) ∷ ‵ (fdies ty40 l40) ∷ ‵ (froom ty39 l39 0) ∷ ‵ (fdies ty39 l39) ∷ ‵ (froom ty38 l38 0) ∷ ‵ (fdies ty38 l38) ∷ ‵ (froom ty37 l37 0) ∷ ‵ (fdies ty37 l37) ∷ ‵ (froom ty36 l36 0) ∷ ‵ (fdies ty36 l36) ∷ ‵ (froom ty35 l35 0) ∷ ‵ (fdies ty35 l35) ∷ ‵ (froom ty34 l34 0) ∷ ‵ (fdies ty34 l34) ∷ ‵ (froom ty33 l33 0) ∷ ‵ (fdies ty33 l33) ∷ ‵ (froom ty32 l32 0) ∷ ‵ (fdies ty32 l32) ∷ ‵ (froom ty31 l31 0) ∷ ‵ (fdies ty31 l31) ∷ ‵ (froom ty30 l30 0) ∷ ‵ (fdies ty30 l30) ∷ ‵ (froom ty29 l29 0) ∷ ‵ (fdies ty29 l29) ∷ ‵ (froom ty28 l28 0) ∷ ‵ (fdies ty28 l28) ∷ ‵ (froom ty27 l27 0) ∷ ‵ (fdies ty27 l27) ∷ ‵ (froom ty26 l26 0) ∷ ‵ (fdies ty26 l26) ∷ ‵ (froom ty25 l25 0) ∷ ‵ (fdies ty25 l25) ∷ ‵ (froom ty24 l24 0) ∷ ‵ (fdies ty24 l24) ∷ ‵ (froom ty23 l23 0) ∷ ‵ (fdies ty23 l23) ∷ ‵ (froom ty22 l22 0) ∷ ‵ (fdies ty22 l22) ∷ ‵ (froom ty21 l21 0) ∷ ‵ (fdies ty21 l21) ∷ ‵ (froom ty20 l20 0) ∷ ‵ (fdies ty20 l20) ∷ ‵ (froom ty19 l19 0) ∷ ‵ (fdies ty19 l19) ∷ ‵ (froom ty18 l18 0) ∷ ‵ (fdies ty18 l18) ∷ ‵ (froom ty17 l17 0) ∷ ‵ (fdies ty17 l17) ∷ ‵ (froom ty16 l16 0) ∷ ‵ (fdies ty16 l16) ∷ ‵ (froom ty15 l15 0) ∷ ‵ (fdies ty15 l15) ∷ ‵ (froom ty14 l14 0) ∷ ‵ (fdies ty14 l14) ∷ ‵ (froom ty13 l13 0) ∷ ‵ (fdies ty13 l13) ∷ ‵ (froom ty12 l12 0) ∷ ‵ (fdies ty12 l12) ∷ ‵ (froom ty11 l11 0) ∷ ‵ (fdies ty11 l11) ∷ ‵ (froom ty10 l10 0) ∷ ‵ (fdies ty10 l10) ∷ ‵ (froom ty9 l9 0) ∷ ‵ (fdies ty9 l9) ∷ ‵ (froom ty8 l8 0) ∷ ‵ (fdies ty8 l8) ∷ ‵ (froom ty7 l7 0) ∷ ‵ (fdies ty7 l7) ∷ ‵ (froom ty6 l6 0) ∷ ‵ (fdies ty6 l6) ∷ ‵ (froom ty5 l5 0) ∷ ‵ (fdies ty5 l5) ∷ ‵ (froom ty4 l4 0) ∷ ‵ (fdies ty4 l4) ∷ ‵ (fat fullShare ty3 l3 0 (a-usize .val count)) ∷ ‵ (fdies ty3 l3) ∷ ‵ (fat fullShare ty2 l2 0 ((known-array a-Input 256) .val inputs)) ∷ ‵ (fdies ty2 l2) ∷ ‵ (fat fullShare ty1 l1 0 (a-Desk .val d)) ∷ ‵ (fdies ty1 l1) ∷ ‵ (froom ty0 l0 0) ∷ ‵ (fdies ty0 l0) ∷ ‵ ftrue ∷ ‵ (owns (Desk′.the-row ∷ (Array Input′.the-row 256) ∷ usize ∷ []) args machine) ∷ []) (runs (𝓣 .C) (𝓣 .Λ) E (code.function .body) (atRet E Post))
       passed =
-          move ! (79 ∷ []) $ fsplit ! $ drop ! $ fsplit ! $ drop ! $ fsplit ! $ drop ! $ drop ! $ move ! (78 ∷ []) $ drop ! $
+          move ! (85 ∷ []) $ fsplit ! $ drop ! $ fsplit ! $ drop ! $ fsplit ! $ drop ! $ drop ! $ move ! (84 ∷ []) $ drop ! $
           from-0
 
-    walk : ent 𝓤 (onEntry 𝓤 H A fn.signature tt tt args machine) (WpFn 𝓤 H (𝓣 .C) (𝓣 .Λ) code.function (a-Desk .val d ∷ (known-array a-Order 256) .val orders ∷ a-usize .val count ∷ []) Post)
+    walk : ent 𝓤 (onEntry 𝓤 H A fn.signature tt tt args machine) (WpFn 𝓤 H (𝓣 .C) (𝓣 .Λ) code.function (a-Desk .val d ∷ (known-array a-Input 256) .val inputs ∷ a-usize .val count ∷ []) Post)
     walk =
-        qed W (‵ ftrue ∷ ‵ (owns (Desk′.the-row ∷ (Array Order′.the-row 256) ∷ usize ∷ []) args machine) ∷ []) ∵ enter ! (𝓣 .C) (𝓣 .Λ) code.function (a-Desk .val d ∷ (known-array a-Order 256) .val orders ∷ a-usize .val count ∷ []) _ $
-        alloc1 ! (λ l0. alloc1 ! (λ l1. alloc1 ! (λ l2. alloc1 ! (λ l3. alloc1 ! (λ l4. alloc1 ! (λ l5. alloc1 ! (λ l6. alloc1 ! (λ l7. alloc1 ! (λ l8. alloc1 ! (λ l9. alloc1 ! (λ l10. alloc1 ! (λ l11. alloc1 ! (λ l12. alloc1 ! (λ l13. alloc1 ! (λ l14. alloc1 ! (λ l15. alloc1 ! (λ l16. alloc1 ! (λ l17. alloc1 ! (λ l18. alloc1 ! (λ l19. alloc1 ! (λ l20. alloc1 ! (λ l21. alloc1 ! (λ l22. alloc1 ! (λ l23. alloc1 ! (λ l24. alloc1 ! (λ l25. alloc1 ! (λ l26. alloc1 ! (λ l27. alloc1 ! (λ l28. alloc1 ! (λ l29. alloc1 ! (λ l30. alloc1 ! (λ l31. alloc1 ! (λ l32. alloc1 ! (λ l33. alloc1 ! (λ l34. alloc1 ! (λ l35. alloc1 ! (λ l36. alloc1 ! (λ l37. alloc1 ! (λ l38. alloc0 ! $ params1 ! $
-        pass1 ! (init ! 74 refl (a-Desk .lawful 𝓤 H A W .typed d _ d-fine .0)) $ pass1 ! (init ! 72 refl ((known-array a-Order 256) .lawful 𝓤 H A W .typed orders _ orders-fine .0)) $ pass1 ! (init ! 70 refl (a-usize .lawful 𝓤 H A W .typed count _ count-fine .0)) $ pass0 ! $
-        passed l0 l1 l2 l3 l4 l5 l6 l7 l8 l9 l10 l11 l12 l13 l14 l15 l16 l17 l18 l19 l20 l21 l22 l23 l24 l25 l26 l27 l28 l29 l30 l31 l32 l33 l34 l35 l36 l37 l38)))))))))))))))))))))))))))))))))))))))
+        qed W (‵ ftrue ∷ ‵ (owns (Desk′.the-row ∷ (Array Input′.the-row 256) ∷ usize ∷ []) args machine) ∷ []) ∵ enter ! (𝓣 .C) (𝓣 .Λ) code.function (a-Desk .val d ∷ (known-array a-Input 256) .val inputs ∷ a-usize .val count ∷ []) _ $
+        alloc1 ! (λ l0. alloc1 ! (λ l1. alloc1 ! (λ l2. alloc1 ! (λ l3. alloc1 ! (λ l4. alloc1 ! (λ l5. alloc1 ! (λ l6. alloc1 ! (λ l7. alloc1 ! (λ l8. alloc1 ! (λ l9. alloc1 ! (λ l10. alloc1 ! (λ l11. alloc1 ! (λ l12. alloc1 ! (λ l13. alloc1 ! (λ l14. alloc1 ! (λ l15. alloc1 ! (λ l16. alloc1 ! (λ l17. alloc1 ! (λ l18. alloc1 ! (λ l19. alloc1 ! (λ l20. alloc1 ! (λ l21. alloc1 ! (λ l22. alloc1 ! (λ l23. alloc1 ! (λ l24. alloc1 ! (λ l25. alloc1 ! (λ l26. alloc1 ! (λ l27. alloc1 ! (λ l28. alloc1 ! (λ l29. alloc1 ! (λ l30. alloc1 ! (λ l31. alloc1 ! (λ l32. alloc1 ! (λ l33. alloc1 ! (λ l34. alloc1 ! (λ l35. alloc1 ! (λ l36. alloc1 ! (λ l37. alloc1 ! (λ l38. alloc1 ! (λ l39. alloc1 ! (λ l40. alloc1 ! (λ l41. alloc0 ! $ params1 ! $
+        pass1 ! (init ! 80 refl (a-Desk .lawful 𝓤 H A W .typed d _ d-fine .0)) $ pass1 ! (init ! 78 refl ((known-array a-Input 256) .lawful 𝓤 H A W .typed inputs _ inputs-fine .0)) $ pass1 ! (init ! 76 refl (a-usize .lawful 𝓤 H A W .typed count _ count-fine .0)) $ pass0 ! $
+        passed l0 l1 l2 l3 l4 l5 l6 l7 l8 l9 l10 l11 l12 l13 l14 l15 l16 l17 l18 l19 l20 l21 l22 l23 l24 l25 l26 l27 l28 l29 l30 l31 l32 l33 l34 l35 l36 l37 l38 l39 l40 l41))))))))))))))))))))))))))))))))))))))))))
 
-module _ {M′ : Type 1} (𝓤 : URA M′) (H : Heap 𝓤) (A : Atoms 𝓤) (W : Given 𝓤 H A) (at-mem : Memory → SProp 𝓤) (run : Routine → Fun 𝓤) (𝓣 : Tables 𝓤 H) (known-in-block : Triple 𝓤 (𝓣 .C #desk·in-block) (Says-in-block 𝓤 H A at-mem run)) (known-state-of : Triple 𝓤 (𝓣 .C #desk·state-of) (Says-state-of 𝓤 H A at-mem run)) (known-archive-of : Triple 𝓤 (𝓣 .C #desk·archive-of) (Says-archive-of 𝓤 H A at-mem run)) (known-log-of : Triple 𝓤 (𝓣 .C #desk·log-of) (Says-log-of 𝓤 H A at-mem run)) (known-audit-of : Triple 𝓤 (𝓣 .C #desk·audit-of) (Says-audit-of 𝓤 H A at-mem run)) (known-nothing-said : Triple 𝓤 (𝓣 .C #desk·nothing-said) (Says-nothing-said 𝓤 H A at-mem run)) (known-fetch-order : Triple 𝓤 (𝓣 .C #desk·fetch-order) (Says-fetch-order 𝓤 H A at-mem run)) (known-command-in : Triple 𝓤 (𝓣 .C #desk·command-in) (Says-command-in 𝓤 H A at-mem run)) (known-shown : Triple 𝓤 (𝓣 .C #turns·shown) (Says-shown 𝓤 H A at-mem run)) (known-answer : Triple 𝓤 (𝓣 .C #turns·answer) (Says-answer 𝓤 H A at-mem run)) (known-said-in : Triple 𝓤 (𝓣 .C #desk·said-in) (Says-said-in 𝓤 H A at-mem run)) (known-put-said : Triple 𝓤 (𝓣 .C #desk·put-said) (Says-put-said 𝓤 H A at-mem run)) (known-state-in : Triple 𝓤 (𝓣 .C #desk·state-in) (Says-state-in 𝓤 H A at-mem run)) (known-put-together : Triple 𝓤 (𝓣 .C #desk·put-together) (Says-put-together 𝓤 H A at-mem run)) where
+module _ {M′ : Type 1} (𝓤 : URA M′) (H : Heap 𝓤) (A : Atoms 𝓤) (W : Given 𝓤 H A) (at-mem : Memory → SProp 𝓤) (run : Routine → Fun 𝓤) (𝓣 : Tables 𝓤 H) (known-in-block : Triple 𝓤 (𝓣 .C #desk·in-block) (Says-in-block 𝓤 H A at-mem run)) (known-state-of : Triple 𝓤 (𝓣 .C #desk·state-of) (Says-state-of 𝓤 H A at-mem run)) (known-whole : Triple 𝓤 (𝓣 .C #state·whole) (Says-whole 𝓤 H A at-mem run)) (known-archive-of : Triple 𝓤 (𝓣 .C #desk·archive-of) (Says-archive-of 𝓤 H A at-mem run)) (known-log-of : Triple 𝓤 (𝓣 .C #desk·log-of) (Says-log-of 𝓤 H A at-mem run)) (known-audit-of : Triple 𝓤 (𝓣 .C #desk·audit-of) (Says-audit-of 𝓤 H A at-mem run)) (known-no-outputs : Triple 𝓤 (𝓣 .C #desk·no-outputs) (Says-no-outputs 𝓤 H A at-mem run)) (known-fetch-input : Triple 𝓤 (𝓣 .C #desk·fetch-input) (Says-fetch-input 𝓤 H A at-mem run)) (known-entry-in : Triple 𝓤 (𝓣 .C #desk·entry-in) (Says-entry-in 𝓤 H A at-mem run)) (known-command-in : Triple 𝓤 (𝓣 .C #desk·command-in) (Says-command-in 𝓤 H A at-mem run)) (known-seen : Triple 𝓤 (𝓣 .C #device·seen) (Says-seen 𝓤 H A at-mem run)) (known-answer : Triple 𝓤 (𝓣 .C #device·answer) (Says-answer 𝓤 H A at-mem run)) (known-answered-in : Triple 𝓤 (𝓣 .C #desk·answered-in) (Says-answered-in 𝓤 H A at-mem run)) (known-output-by : Triple 𝓤 (𝓣 .C #desk·output-by) (Says-output-by 𝓤 H A at-mem run)) (known-put-output : Triple 𝓤 (𝓣 .C #desk·put-output) (Says-put-output 𝓤 H A at-mem run)) (known-state-in : Triple 𝓤 (𝓣 .C #desk·state-in) (Says-state-in 𝓤 H A at-mem run)) (known-sound-by : Triple 𝓤 (𝓣 .C #desk·sound-by) (Says-sound-by 𝓤 H A at-mem run)) (known-put-together : Triple 𝓤 (𝓣 .C #desk·put-together) (Says-put-together 𝓤 H A at-mem run)) where
   walks : Walks 𝓤 H A fn.ended stayed (WpFn 𝓤 H (𝓣 .C) (𝓣 .Λ) code.function) (fn.clauses 𝓤 H A at-mem run)
   walks = walked 𝓤 H A fn.ended stayed (fn.clauses 𝓤 H A at-mem run) (WpFn 𝓤 H (𝓣 .C) (𝓣 .Λ) code.function)
-      (λ κs. (vals a-Desk, (vals (known-array a-Order 256), (vals a-usize, tt)))) (λ κs. (a-Desk .tells, ((known-array a-Order 256) .tells, (a-usize .tells, tt))))
-      (λ κs qs bounds a g are. via 𝓤 _ (fst∗ 𝓤 _ (emp 𝓤)) (walk 𝓤 H A W at-mem run (a .0) (are .0) (a .1 .0) (are .1 .0) (a .1 .1 .0) (are .1 .1 .0) 𝓣 known-in-block known-state-of known-archive-of known-log-of known-audit-of known-nothing-said known-fetch-order known-command-in known-shown known-answer known-said-in known-put-said known-state-in known-put-together))
+      (λ κs. (vals a-Desk, (vals (known-array a-Input 256), (vals a-usize, tt)))) (λ κs. (a-Desk .tells, ((known-array a-Input 256) .tells, (a-usize .tells, tt))))
+      (λ κs qs bounds a g are. via 𝓤 _ (fst∗ 𝓤 _ (emp 𝓤)) (walk 𝓤 H A W at-mem run (a .0) (are .0) (a .1 .0) (are .1 .0) (a .1 .1 .0) (are .1 .1 .0) 𝓣 known-in-block known-state-of known-whole known-archive-of known-log-of known-audit-of known-no-outputs known-fetch-input known-entry-in known-command-in known-seen known-answer known-answered-in known-output-by known-put-output known-state-in known-sound-by known-put-together))
 
   goes : AllGo 𝓤 H A W 0 (fn.signature .params) (fn.ended .kept) stayed
-  goes = (goes-dropped 𝓤 H A W 0 (plain (λ _. Desk′.the-row)) yes (λ κs x f. refl), (goes-dropped 𝓤 H A W 0 (plain (λ _. (Array Order′.the-row 256))) yes (λ κs x f. refl), (goes-dropped 𝓤 H A W 0 (plain (λ _. usize)) yes (λ κs x f. refl), tt)))
+  goes = (goes-dropped 𝓤 H A W 0 (plain (λ _. Desk′.the-row)) yes (λ κs x f. refl), (goes-dropped 𝓤 H A W 0 (plain (λ _. (Array Input′.the-row 256))) yes (λ κs x f. refl), (goes-dropped 𝓤 H A W 0 (plain (λ _. usize)) yes (λ κs x f. refl), tt)))
 
   meets : Meets 𝓤 H A fn.signature (WpFn 𝓤 H (𝓣 .C) (𝓣 .Λ) code.function) (fn.spec 𝓤 H A at-mem run)
   meets = walk-meets 𝓤 H A fn.ended stayed W goes (fn.clauses 𝓤 H A at-mem run) (WpFn 𝓤 H (𝓣 .C) (𝓣 .Λ) code.function) (WpFn-mono 𝓤 H (W .laws) 𝓣 code.function) walks
@@ -702,15 +799,19 @@ serve-spec 𝓤 H 𝓜 𝓖 𝓡 =
     (meets 𝓤 H (𝓖 .A) (givenOf 𝓤 H 𝓜 𝓖) (𝓜 .mem) (𝓡 .run) (tablesOf 𝓤 H 𝓜 (tables 𝓤 H 𝓜 𝓡 code.env))
     (cited 𝓤 H (Says-in-block 𝓤 H (𝓖 .A) (𝓜 .mem) (𝓡 .run)) 𝓜 𝓡 code.env #desk·in-block in-block-def.routine code.calls-desk·in-block (in-block-thm.met 𝓤 H 𝓜 𝓖 𝓡))
     (cited 𝓤 H (Says-state-of 𝓤 H (𝓖 .A) (𝓜 .mem) (𝓡 .run)) 𝓜 𝓡 code.env #desk·state-of state-of-def.routine code.calls-desk·state-of (state-of-thm.met 𝓤 H 𝓜 𝓖 𝓡))
+    (cited 𝓤 H (Says-whole 𝓤 H (𝓖 .A) (𝓜 .mem) (𝓡 .run)) 𝓜 𝓡 code.env #state·whole whole-def.routine code.calls-state·whole (whole-thm.met 𝓤 H 𝓜 𝓖 𝓡))
     (cited 𝓤 H (Says-archive-of 𝓤 H (𝓖 .A) (𝓜 .mem) (𝓡 .run)) 𝓜 𝓡 code.env #desk·archive-of archive-of-def.routine code.calls-desk·archive-of (archive-of-thm.met 𝓤 H 𝓜 𝓖 𝓡))
     (cited 𝓤 H (Says-log-of 𝓤 H (𝓖 .A) (𝓜 .mem) (𝓡 .run)) 𝓜 𝓡 code.env #desk·log-of log-of-def.routine code.calls-desk·log-of (log-of-thm.met 𝓤 H 𝓜 𝓖 𝓡))
     (cited 𝓤 H (Says-audit-of 𝓤 H (𝓖 .A) (𝓜 .mem) (𝓡 .run)) 𝓜 𝓡 code.env #desk·audit-of audit-of-def.routine code.calls-desk·audit-of (audit-of-thm.met 𝓤 H 𝓜 𝓖 𝓡))
-    (cited 𝓤 H (Says-nothing-said 𝓤 H (𝓖 .A) (𝓜 .mem) (𝓡 .run)) 𝓜 𝓡 code.env #desk·nothing-said nothing-said-def.routine code.calls-desk·nothing-said (nothing-said-thm.met 𝓤 H 𝓜 𝓖 𝓡))
-    (cited 𝓤 H (Says-fetch-order 𝓤 H (𝓖 .A) (𝓜 .mem) (𝓡 .run)) 𝓜 𝓡 code.env #desk·fetch-order fetch-order-def.routine code.calls-desk·fetch-order (fetch-order-thm.met 𝓤 H 𝓜 𝓖 𝓡))
+    (cited 𝓤 H (Says-no-outputs 𝓤 H (𝓖 .A) (𝓜 .mem) (𝓡 .run)) 𝓜 𝓡 code.env #desk·no-outputs no-outputs-def.routine code.calls-desk·no-outputs (no-outputs-thm.met 𝓤 H 𝓜 𝓖 𝓡))
+    (cited 𝓤 H (Says-fetch-input 𝓤 H (𝓖 .A) (𝓜 .mem) (𝓡 .run)) 𝓜 𝓡 code.env #desk·fetch-input fetch-input-def.routine code.calls-desk·fetch-input (fetch-input-thm.met 𝓤 H 𝓜 𝓖 𝓡))
+    (cited 𝓤 H (Says-entry-in 𝓤 H (𝓖 .A) (𝓜 .mem) (𝓡 .run)) 𝓜 𝓡 code.env #desk·entry-in entry-in-def.routine code.calls-desk·entry-in (entry-in-thm.met 𝓤 H 𝓜 𝓖 𝓡))
     (cited 𝓤 H (Says-command-in 𝓤 H (𝓖 .A) (𝓜 .mem) (𝓡 .run)) 𝓜 𝓡 code.env #desk·command-in command-in-def.routine code.calls-desk·command-in (command-in-thm.met 𝓤 H 𝓜 𝓖 𝓡))
-    (cited 𝓤 H (Says-shown 𝓤 H (𝓖 .A) (𝓜 .mem) (𝓡 .run)) 𝓜 𝓡 code.env #turns·shown shown-def.routine code.calls-turns·shown (shown-thm.met 𝓤 H 𝓜 𝓖 𝓡))
-    (cited 𝓤 H (Says-answer 𝓤 H (𝓖 .A) (𝓜 .mem) (𝓡 .run)) 𝓜 𝓡 code.env #turns·answer answer-def.routine code.calls-turns·answer (answer-thm.met 𝓤 H 𝓜 𝓖 𝓡))
-    (cited 𝓤 H (Says-said-in 𝓤 H (𝓖 .A) (𝓜 .mem) (𝓡 .run)) 𝓜 𝓡 code.env #desk·said-in said-in-def.routine code.calls-desk·said-in (said-in-thm.met 𝓤 H 𝓜 𝓖 𝓡))
-    (cited 𝓤 H (Says-put-said 𝓤 H (𝓖 .A) (𝓜 .mem) (𝓡 .run)) 𝓜 𝓡 code.env #desk·put-said put-said-def.routine code.calls-desk·put-said (put-said-thm.met 𝓤 H 𝓜 𝓖 𝓡))
+    (cited 𝓤 H (Says-seen 𝓤 H (𝓖 .A) (𝓜 .mem) (𝓡 .run)) 𝓜 𝓡 code.env #device·seen seen-def.routine code.calls-device·seen (seen-thm.met 𝓤 H 𝓜 𝓖 𝓡))
+    (cited 𝓤 H (Says-answer 𝓤 H (𝓖 .A) (𝓜 .mem) (𝓡 .run)) 𝓜 𝓡 code.env #device·answer answer-def.routine code.calls-device·answer (answer-thm.met 𝓤 H 𝓜 𝓖 𝓡))
+    (cited 𝓤 H (Says-answered-in 𝓤 H (𝓖 .A) (𝓜 .mem) (𝓡 .run)) 𝓜 𝓡 code.env #desk·answered-in answered-in-def.routine code.calls-desk·answered-in (answered-in-thm.met 𝓤 H 𝓜 𝓖 𝓡))
+    (cited 𝓤 H (Says-output-by 𝓤 H (𝓖 .A) (𝓜 .mem) (𝓡 .run)) 𝓜 𝓡 code.env #desk·output-by output-by-def.routine code.calls-desk·output-by (output-by-thm.met 𝓤 H 𝓜 𝓖 𝓡))
+    (cited 𝓤 H (Says-put-output 𝓤 H (𝓖 .A) (𝓜 .mem) (𝓡 .run)) 𝓜 𝓡 code.env #desk·put-output put-output-def.routine code.calls-desk·put-output (put-output-thm.met 𝓤 H 𝓜 𝓖 𝓡))
     (cited 𝓤 H (Says-state-in 𝓤 H (𝓖 .A) (𝓜 .mem) (𝓡 .run)) 𝓜 𝓡 code.env #desk·state-in state-in-def.routine code.calls-desk·state-in (state-in-thm.met 𝓤 H 𝓜 𝓖 𝓡))
+    (cited 𝓤 H (Says-sound-by 𝓤 H (𝓖 .A) (𝓜 .mem) (𝓡 .run)) 𝓜 𝓡 code.env #desk·sound-by sound-by-def.routine code.calls-desk·sound-by (sound-by-thm.met 𝓤 H 𝓜 𝓖 𝓡))
     (cited 𝓤 H (Says-put-together 𝓤 H (𝓖 .A) (𝓜 .mem) (𝓡 .run)) 𝓜 𝓡 code.env #desk·put-together put-together-def.routine code.calls-desk·put-together (put-together-thm.met 𝓤 H 𝓜 𝓖 𝓡)))

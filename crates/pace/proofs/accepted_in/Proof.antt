@@ -1,22 +1,16 @@
 -- `pace::accepted_in` is safe and ends: it goes through the block.
 -- Assumes nothing.
 use borrow.Author.Needs.{needs}
-use mathlib.Core.Path.{_≡_, refl, sym, _∙_}
-use Prim.Native.Nat.{_-_, _*_, _+_, _≤_}
+use Prim.Native.Nat.{_-_, _≤_}
 use native.Mathlib.Omega.{arith}
-use lib.ListN.{length}
 use Rattle.pace.proofs.accepted_in.Statement.{statement}
 use Rattle.pace.proofs.accepted_in.Tie as tie
-use Rattle.pace.proofs.accepted_in.Reads as reads
-use Rattle.pace.proofs.accepted_in.Lts as lts
-use Rattle.pace.proofs.is_accepted.Reads as is-accepted-reads
-use Rattle.std.proofs.num.wrapping_add_u64.Reads as wrapping-add-u64-reads
 
 abbrev Inv-loop : tie.InvT-loop
-Inv-loop count said found₀ k₀ found k = k ≤ 256
+Inv-loop count outputs found₀ k₀ found k = k ≤ 256
 
 abbrev μ-loop : tie.MeasureT-loop
-μ-loop count said found₀ k₀ found k = 256 - k
+μ-loop count outputs found₀ k₀ found k = 256 - k
 
 loop-holds : tie.Need-loop-holds Inv-loop μ-loop
 loop-holds c = omega arith

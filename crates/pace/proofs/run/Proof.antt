@@ -1,22 +1,16 @@
 -- `pace::run` is safe and ends: the passes that are left get fewer.
 -- Assumes nothing.
 use borrow.Author.Needs.{needs}
-use mathlib.Core.Path.{_≡_, refl, sym, _∙_}
-use Prim.Native.Nat.{_-_, _*_, _+_, _≤_}
+use Prim.Native.Nat.{_≤_}
 use native.Mathlib.Omega.{arith}
-use lib.ListN.{length}
 use Rattle.pace.proofs.run.Statement.{statement}
 use Rattle.pace.proofs.run.Tie as tie
-use Rattle.pace.proofs.run.Reads as reads
-use Rattle.pace.proofs.run.Lts as lts
-use Rattle.desk.proofs.serve.Reads as serve-reads
-use Rattle.pace.proofs.accepted_in.Reads as accepted-in-reads
 
 abbrev Inv-loop : tie.InvT-loop
-Inv-loop orders count passes desk₀ found₀ left₀ desk found left = 0 ≤ left
+Inv-loop inputs count passes desk₀ found₀ left₀ desk found left = 0 ≤ left
 
 abbrev μ-loop : tie.MeasureT-loop
-μ-loop orders count passes desk₀ found₀ left₀ desk found left = left
+μ-loop inputs count passes desk₀ found₀ left₀ desk found left = left
 
 loop-holds : tie.Need-loop-holds Inv-loop μ-loop
 loop-holds c = omega arith

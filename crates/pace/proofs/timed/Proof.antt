@@ -6,13 +6,6 @@ use lib.Seq.{length-take-le}
 use borrow.Author.Needs.{needs}
 use Rattle.pace.proofs.timed.Statement.{statement}
 use Rattle.pace.proofs.timed.Tie as tie
-use Rattle.pace.proofs.timed.Reads as reads
-use Rattle.pace.proofs.timed.Lts as lts
-use Rattle.desk.proofs.fresh.Reads as fresh-reads
-use Rattle.lines.proofs.orders_in.Reads as orders-in-reads
-use Rattle.pace.proofs.number_in.Reads as number-in-reads
-use Rattle.pace.proofs.run.Reads as run-reads
-use Rattle.text.proofs.words.first_of.Reads as first-of-reads
 
 first-of-requires : tie.Need-first-of-requires
 first-of-requires c κs = search needs
@@ -23,20 +16,20 @@ slice-aggregate-number-in c = sym (length-take-le _ _ (omega (arith, c .before .
 number-in-requires : tie.Need-number-in-requires
 number-in-requires c κs = search needs
 
-add-orders-in : tie.Need-add-orders-in
-add-orders-in c = search needs
+add-inputs-in : tie.Need-add-inputs-in
+add-inputs-in c = search needs
 
-sub-orders-in : tie.Need-sub-orders-in
-sub-orders-in c = search needs
+sub-inputs-in : tie.Need-sub-inputs-in
+sub-inputs-in c = search needs
 
-part-orders-in-start : tie.Need-part-orders-in-start
-part-orders-in-start c = search needs
+part-inputs-in-start : tie.Need-part-inputs-in-start
+part-inputs-in-start c = search needs
 
-part-orders-in-end : tie.Need-part-orders-in-end
-part-orders-in-end c = search needs
+part-inputs-in-end : tie.Need-part-inputs-in-end
+part-inputs-in-end c = search needs
 
-orders-in-requires : tie.Need-orders-in-requires
-orders-in-requires c κs = search needs
+inputs-in-requires : tie.Need-inputs-in-requires
+inputs-in-requires c κs = search needs
 
 fresh-requires : tie.Need-fresh-requires
 fresh-requires c κs = search needs
@@ -57,11 +50,11 @@ timed-spec =
     first-of-requires
     slice-aggregate-number-in
     number-in-requires
-    add-orders-in
-    sub-orders-in
-    part-orders-in-start
-    part-orders-in-end
-    orders-in-requires
+    add-inputs-in
+    sub-inputs-in
+    part-inputs-in-start
+    part-inputs-in-end
+    inputs-in-requires
     fresh-requires
     run-requires
     returns

@@ -1,33 +1,79 @@
--- `settings::row_of` meets its contract: an entry of the table, and past it the row of no setting.
+-- `settings::row_of` meets its contract, row by row: the checker computes the definition's row, and past the table's end there is none.
 -- Assumes nothing.
-use mathlib.Core.Path.{sym, ap}
-use mathlib.Core.List.{List}
-use lib.ListN.{getD, List·getD-eq-default}
+use mathlib.Core.Path.{_≡_, sym, ap, _∙_}
+use Prim.Native.Nat.{ℕ, zero, suc, _≤_}
+use lib.Ieee.{ofBits, neg}
+use lib.ListN.{List·getD-eq-default}
+use native.Mathlib.Omega.{arith}
 use borrow.Author.Needs.{needs}
 use Rattle.settings.specs.declared.Row.{Row}
-use Rattle.settings.specs.Settings.{rows, rowOf, noRow}
+use Rattle.settings.specs.Settings.{settingCount, rows, rowOf, noRow}
 use Rattle.settings.proofs.row_of.Statement.{statement}
 use Rattle.settings.proofs.row_of.Tie as tie
-use Rattle.settings.proofs.row_of.Reads as reads
-use Rattle.settings.proofs.row_of.Lts as lts
-use Rattle.settings.proofs.table.Reads as table-reads
 
-table-requires : tie.Need-table-requires
-table-requires c κs = search needs
+-- the row of k, where k is n
+row-at : {k n : ℕ} {r : Row} → k ≡ n → r ≡ rowOf n → r ≡ rowOf k
+row-at e p = p ∙ sym (ap rowOf e)
 
-mul-result : tie.Need-mul-result
-mul-result c = search needs
+-- k is none of the numbers below n, as the last arm of a `match` has it
+abbrev NoneOf : ℕ → ℕ → Type 0
+NoneOf k zero = Unit
+NoneOf k (suc n) = NoneOf k n × (k ≡ n → ⊥)
 
-array-copy-out-result : tie.Need-array-copy-out-result
-array-copy-out-result c = search needs
+past : (k n : ℕ) → NoneOf k n → n ≤ k
+past k zero h = omega arith
+past k (suc n) h = omega (arith, past k n (h .0), h .1)
 
-returns : tie.Need-returns
-unfolding rowOf
-returns c = ap (λ (t : List Row). getD t (c .before .before .before .args .k) noRow) (c .before .table .ensures)
-
-returns-2 : tie.Need-returns-2
+no-row : {k : ℕ} {r : Row} → NoneOf k settingCount → r ≡ noRow → r ≡ rowOf k
 unfolding rowOf rows
-returns-2 c = sym (List·getD-eq-default rows noRow {n = c .before .args .k} (c .if1 .left))
+no-row {k = k} h p = p ∙ sym (List·getD-eq-default rows noRow {n = k} (past k settingCount h))
 
 pub row-of-spec : {M : Type 1} → statement M
-row-of-spec = tie.close (tie.spec table-requires mul-result array-copy-out-result returns returns-2)
+unfolding rowOf rows ofBits neg
+row-of-spec =
+    tie.close
+    (tie.spec
+    (λ c κs. search needs)
+    (λ c κs. search needs)
+    (λ c κs. search needs)
+    (λ c κs. search needs)
+    (λ c κs. search needs)
+    (λ c κs. search needs)
+    (λ c κs. search needs)
+    (λ c κs. search needs)
+    (λ c κs. search needs)
+    (λ c κs. search needs)
+    (λ c κs. search needs)
+    (λ c κs. search needs)
+    (λ c κs. search needs)
+    (λ c κs. search needs)
+    (λ c κs. search needs)
+    (λ c κs. search needs)
+    (λ c κs. search needs)
+    (λ c κs. search needs)
+    (λ c κs. search needs)
+    (λ c κs. search needs)
+    (λ c κs. search needs)
+    (λ c κs. search needs)
+    (λ c. row-at (c .before .match .keys1) (c .whole-row .ensures))
+    (λ c. row-at (c .before .match .keys2) (c .whole-row2 .ensures))
+    (λ c. row-at (c .before .match .keys3) (c .whole-row3 .ensures))
+    (λ c. row-at (c .before .match .keys4) (c .whole-row4 .ensures))
+    (λ c. row-at (c .before .match .keys5) (c .whole-row5 .ensures))
+    (λ c. row-at (c .before .match .keys6) (c .whole-row6 .ensures))
+    (λ c. row-at (c .before .match .keys7) (c .whole-row7 .ensures))
+    (λ c. row-at (c .before .match .keys8) (c .whole-row8 .ensures))
+    (λ c. row-at (c .before .match .keys9) (c .whole-row9 .ensures))
+    (λ c. row-at (c .before .match .keys10) (c .whole-row10 .ensures))
+    (λ c. row-at (c .before .match .keys11) (c .float-row .ensures))
+    (λ c. row-at (c .before .match .keys12) (c .float-row2 .ensures))
+    (λ c. row-at (c .before .match .keys13) (c .float-row3 .ensures))
+    (λ c. row-at (c .before .match .keys14) (c .whole-row11 .ensures))
+    (λ c. row-at (c .before .match .keys15) (c .whole-row12 .ensures))
+    (λ c. row-at (c .before .match .keys16) (c .whole-row13 .ensures))
+    (λ c. row-at (c .before .match .keys17) (c .whole-row14 .ensures))
+    (λ c. row-at (c .before .match .keys18) (c .whole-row15 .ensures))
+    (λ c. row-at (c .before .match .keys19) (c .whole-row16 .ensures))
+    (λ c. row-at (c .before .match .keys20) (c .whole-row17 .ensures))
+    (λ c. row-at (c .before .match .keys21) (c .whole-row18 .ensures))
+    (λ c. no-row (c .before .match .rest) (c .whole-row19 .ensures)))

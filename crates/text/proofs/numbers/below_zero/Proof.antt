@@ -4,8 +4,6 @@ use borrow.Author.Needs.{needs}
 use Rattle.text.proofs.Below.{below-fits, below-is}
 use Rattle.text.proofs.numbers.below_zero.Statement.{statement}
 use Rattle.text.proofs.numbers.below_zero.Tie as tie
-use Rattle.text.proofs.numbers.below_zero.Reads as reads
-use Rattle.text.proofs.numbers.below_zero.Lts as lts
 
 returns : tie.Need-returns
 returns c = rw (c .if1 .taken)

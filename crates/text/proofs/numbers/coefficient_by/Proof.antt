@@ -3,9 +3,6 @@
 use borrow.Author.Needs.{needs}
 use Rattle.text.proofs.numbers.coefficient_by.Statement.{statement}
 use Rattle.text.proofs.numbers.coefficient_by.Tie as tie
-use Rattle.text.proofs.numbers.coefficient_by.Reads as reads
-use Rattle.text.proofs.numbers.coefficient_by.Lts as lts
-use Rattle.text.proofs.numbers.float_of.Reads as float-of-reads
 
 enum-told : tie.Need-enum-told
 enum-told c = search needs

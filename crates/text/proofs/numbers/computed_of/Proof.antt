@@ -3,8 +3,6 @@
 use borrow.Author.Needs.{needs}
 use Rattle.text.proofs.numbers.computed_of.Statement.{statement}
 use Rattle.text.proofs.numbers.computed_of.Tie as tie
-use Rattle.text.proofs.numbers.computed_of.Reads as reads
-use Rattle.text.proofs.numbers.computed_of.Lts as lts
 
 enum-told : tie.Need-enum-told
 enum-told c = search needs

@@ -5,8 +5,6 @@ use borrow.Author.Tests.{lt-ltb, le-ltb}
 use Rattle.text.specs.Numbers.{digitOf}
 use Rattle.text.proofs.numbers.digit_of.Statement.{statement}
 use Rattle.text.proofs.numbers.digit_of.Tie as tie
-use Rattle.text.proofs.numbers.digit_of.Reads as reads
-use Rattle.text.proofs.numbers.digit_of.Lts as lts
 
 returns : tie.Need-returns
 unfolding digitOf

@@ -4,8 +4,6 @@ use borrow.Author.Needs.{needs}
 use Rattle.text.proofs.Floats.{nan-made, no-nan}
 use Rattle.text.proofs.numbers.float_of.Statement.{statement}
 use Rattle.text.proofs.numbers.float_of.Tie as tie
-use Rattle.text.proofs.numbers.float_of.Reads as reads
-use Rattle.text.proofs.numbers.float_of.Lts as lts
 
 returns : tie.Need-returns
 returns c = nan-made (c .before .args .bits) (c .if1 .taken)

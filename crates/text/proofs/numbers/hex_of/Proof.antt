@@ -5,9 +5,6 @@ use borrow.Author.Tests.{eq-eqb, ne-eqb}
 use Rattle.text.specs.Numbers.{hexOf}
 use Rattle.text.proofs.numbers.hex_of.Statement.{statement}
 use Rattle.text.proofs.numbers.hex_of.Tie as tie
-use Rattle.text.proofs.numbers.hex_of.Reads as reads
-use Rattle.text.proofs.numbers.hex_of.Lts as lts
-use Rattle.text.proofs.numbers.number_in.Reads as number-in-reads
 
 number-in-requires : tie.Need-number-in-requires
 number-in-requires c κs = search needs

@@ -1,9 +1,9 @@
 -- `text::numbers::number_in` meets its contract: so far all are digits, and the value is what they come to.
 -- Assumes nothing.
 use borrow.Author.Needs.{needs}
-use mathlib.Core.Path.{_≡_, refl, sym, ap, _∙_}
+use mathlib.Core.Path.{_≡_, refl}
 use mathlib.Core.Bool.{true}
-use Prim.Native.Nat.{ℕ, suc, _+_, _-_, _*_, _≤_, _<_}
+use Prim.Native.Nat.{suc, _-_, _≤_, _<_}
 use native.Mathlib.Nat.{le-antisymm}
 use native.Mathlib.Numerals.{add-one}
 use native.Mathlib.Omega.{arith}
@@ -14,9 +14,6 @@ use Rattle.text.specs.Numbers.{digitOf, digitAt, spelled, largest}
 use Rattle.text.proofs.Digits.{empty, fits, over, no-digit, no-digit-at, digit-at, one-more, too-much, is-number}
 use Rattle.text.proofs.numbers.number_in.Statement.{statement}
 use Rattle.text.proofs.numbers.number_in.Tie as tie
-use Rattle.text.proofs.numbers.number_in.Reads as reads
-use Rattle.text.proofs.numbers.number_in.Lts as lts
-use Rattle.text.proofs.numbers.digit_of.Reads as digit-of-reads
 
 abbrev Inv-loop : tie.InvT-loop
 Inv-loop base w value₀ i₀ value i = (i ≤ length w) × (allBelow (digitAt base w) i ≡ true) × (value ≡ spelled base w i) × (value ≤ largest)

@@ -4,8 +4,6 @@ use borrow.Author.Needs.{needs}
 use borrow.Author.Tests.{lt-ltb, le-ltb}
 use Rattle.text.proofs.numbers.raw_of.Statement.{statement}
 use Rattle.text.proofs.numbers.raw_of.Tie as tie
-use Rattle.text.proofs.numbers.raw_of.Reads as reads
-use Rattle.text.proofs.numbers.raw_of.Lts as lts
 
 enum-told : tie.Need-enum-told
 enum-told c = search needs

@@ -5,10 +5,6 @@ use mathlib.Core.Path.{sym}
 use Rattle.text.specs.Numbers.{readingOf}
 use Rattle.text.proofs.numbers.reading_of.Statement.{statement}
 use Rattle.text.proofs.numbers.reading_of.Tie as tie
-use Rattle.text.proofs.numbers.reading_of.Reads as reads
-use Rattle.text.proofs.numbers.reading_of.Lts as lts
-use Rattle.text.proofs.numbers.number_of.Reads as number-of-reads
-use Rattle.text.proofs.words.same.Reads as same-reads
 
 slice-aggregate-same : tie.Need-slice-aggregate-same
 slice-aggregate-same c = search needs

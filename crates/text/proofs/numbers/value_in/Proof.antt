@@ -5,12 +5,6 @@ use mathlib.Core.Path.{sym}
 use Rattle.text.specs.Numbers.{valueIn}
 use Rattle.text.proofs.numbers.value_in.Statement.{statement}
 use Rattle.text.proofs.numbers.value_in.Tie as tie
-use Rattle.text.proofs.numbers.value_in.Reads as reads
-use Rattle.text.proofs.numbers.value_in.Lts as lts
-use Rattle.text.proofs.numbers.coefficient_by.Reads as coefficient-by-reads
-use Rattle.text.proofs.numbers.hex_of.Reads as hex-of-reads
-use Rattle.text.proofs.numbers.whole_of.Reads as whole-of-reads
-use Rattle.text.proofs.words.same.Reads as same-reads
 
 slice-aggregate-same : tie.Need-slice-aggregate-same
 slice-aggregate-same c = search needs

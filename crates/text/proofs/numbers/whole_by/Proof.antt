@@ -1,18 +1,15 @@
 -- `text::numbers::whole_by` meets its contract, case by case.
 -- Assumes nothing.
 use borrow.Author.Needs.{needs}
-use mathlib.Core.Path.{_≡_, ap, _∙_}
+use mathlib.Core.Path.{ap, _∙_}
 use lib.IntN.{ℤ}
 use Rattle.settings.specs.declared.Value.the-variants.{Whole}
-use Rattle.text.specs.declared.numbers.Given.the-variants as given
+use Rattle.text.specs.declared.numbers.Wanted.the-variants as wanted
 use borrow.Author.Tests.{lt-ltb, le-ltb, le-leb, lt-leb}
 use mir.Syntax.{w64}
 use mir.Facts.{toZ-ofZ, toZ-pos}
 use Rattle.text.proofs.numbers.whole_by.Statement.{statement}
 use Rattle.text.proofs.numbers.whole_by.Tie as tie
-use Rattle.text.proofs.numbers.whole_by.Reads as reads
-use Rattle.text.proofs.numbers.whole_by.Lts as lts
-use Rattle.text.proofs.numbers.below_zero.Reads as below-zero-reads
 
 enum-told : tie.Need-enum-told
 enum-told c = search needs
@@ -25,7 +22,7 @@ below-zero-requires c κs = search needs
 
 returns : tie.Need-returns
 returns c =
-    ap (λ (z : ℤ). given.Is (Whole z)) (toZ-ofZ {w = w64} {z = c .below-zero .result} (search needs))
+    ap (λ (z : ℤ). wanted.Is (Whole z)) (toZ-ofZ {w = w64} {z = c .below-zero .result} (search needs))
     ∙ simp (c .below-zero .ensures, c .before .before .before .before .n .given .1, c .before .before .if1 .taken, le-leb _ _ (c .before .if2 .taken))
 
 returns-2 : tie.Need-returns-2

@@ -8,10 +8,6 @@ use Rattle.text.proofs.Bytes.{the-rest}
 use Rattle.text.proofs.Digits.{no-bytes}
 use Rattle.text.proofs.numbers.whole_of.Statement.{statement}
 use Rattle.text.proofs.numbers.whole_of.Tie as tie
-use Rattle.text.proofs.numbers.whole_of.Reads as reads
-use Rattle.text.proofs.numbers.whole_of.Lts as lts
-use Rattle.text.proofs.numbers.number_of.Reads as number-of-reads
-use Rattle.text.proofs.numbers.whole_by.Reads as whole-by-reads
 
 returns : tie.Need-returns
 returns c = no-bytes (now (c .before .before .args .w)) (c .if1 .taken)

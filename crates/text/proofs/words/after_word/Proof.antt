@@ -10,9 +10,6 @@ use Rattle.text.specs.Words.{space, firstOf, afterWord}
 use Rattle.text.proofs.Bytes.{within, the-rest}
 use Rattle.text.proofs.words.after_word.Statement.{statement}
 use Rattle.text.proofs.words.after_word.Tie as tie
-use Rattle.text.proofs.words.after_word.Reads as reads
-use Rattle.text.proofs.words.after_word.Lts as lts
-use Rattle.text.proofs.words.first_of.Reads as first-of-reads
 
 returns : tie.Need-returns
 unfolding afterWord

@@ -11,9 +11,6 @@ use denote.Ref.{now}
 use Rattle.text.proofs.Bytes.{too-short, none-left, kept-few, moved-on, rest-stays, all-moved}
 use Rattle.text.proofs.words.keep.Statement.{statement}
 use Rattle.text.proofs.words.keep.Tie as tie
-use Rattle.text.proofs.words.keep.Reads as reads
-use Rattle.text.proofs.words.keep.Lts as lts
-use Rattle.text.proofs.words.kept_of.Reads as kept-of-reads
 
 abbrev Inv-loop : tie.InvT-loop
 Inv-loop input₀ from to n i₀ input i =

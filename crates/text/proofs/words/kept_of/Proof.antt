@@ -4,8 +4,6 @@ use borrow.Author.Tests.{lt-ltb, le-ltb}
 use Rattle.text.specs.Words.{keptOf}
 use Rattle.text.proofs.words.kept_of.Statement.{statement}
 use Rattle.text.proofs.words.kept_of.Tie as tie
-use Rattle.text.proofs.words.kept_of.Reads as reads
-use Rattle.text.proofs.words.kept_of.Lts as lts
 
 returns : tie.Need-returns
 unfolding keptOf

@@ -1,8 +1,8 @@
 -- `text::words::same` meets its contract: two words of one length are the same exactly when what is left of both is.
 -- Assumes nothing.
 use borrow.Author.Needs.{needs}
-use mathlib.Core.Path.{_≡_, refl, sym, ap, _∙_}
-use Prim.Native.Nat.{ℕ, suc, _+_, _-_, _≤_, _<_}
+use mathlib.Core.Path.{_≡_, refl, sym, _∙_}
+use Prim.Native.Nat.{_-_, _≤_, _<_}
 use native.Mathlib.Nat.{le-antisymm}
 use native.Mathlib.Numerals.{add-one}
 use native.Mathlib.Omega.{arith}
@@ -12,8 +12,6 @@ use Rattle.text.specs.Words.{sameB}
 use Rattle.text.proofs.Bytes.{other-length, passes-both, stops-both, both-end}
 use Rattle.text.proofs.words.same.Statement.{statement}
 use Rattle.text.proofs.words.same.Tie as tie
-use Rattle.text.proofs.words.same.Reads as reads
-use Rattle.text.proofs.words.same.Lts as lts
 
 abbrev Inv-loop : tie.InvT-loop
 Inv-loop a b i₀ i = (length a ≡ length b) × (i ≤ length a) × (sameB a b ≡ sameB (drop i a) (drop i b))

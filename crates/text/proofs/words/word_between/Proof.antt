@@ -1,18 +1,15 @@
 -- `text::words::word_between` meets its contract: where the line ends before the word would, nothing more is taken.
 -- Assumes nothing.
 use borrow.Author.Needs.{needs}
-use mathlib.Core.Path.{_≡_, refl, sym, ap, _∙_}
-use mathlib.Core.List.{[]}
-use Prim.Native.Nat.{ℕ, _-_, _≤_}
+use mathlib.Core.Path.{_≡_, refl, sym, _∙_}
+use Prim.Native.Nat.{_-_, _≤_}
 use native.Mathlib.Omega.{arith}
-use lib.ListN.{length, take, drop, drop-of-length-le, length-drop}
+use lib.ListN.{length, drop, drop-of-length-le, length-drop}
 use lib.Seq.{take-all, take-nil}
 use denote.Ref.{now}
 use Rattle.text.specs.Words.{wordBetween}
 use Rattle.text.proofs.words.word_between.Statement.{statement}
 use Rattle.text.proofs.words.word_between.Tie as tie
-use Rattle.text.proofs.words.word_between.Reads as reads
-use Rattle.text.proofs.words.word_between.Lts as lts
 
 slice-aggregate-result : tie.Need-slice-aggregate-result
 slice-aggregate-result c = search needs

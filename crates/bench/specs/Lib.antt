@@ -1,0 +1,2 @@
+-- What the bench does between a read and a write.
+pub mod Bench

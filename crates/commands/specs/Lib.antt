@@ -1,0 +1,2 @@
+-- Answers, and the stores with them.
+pub mod Answers

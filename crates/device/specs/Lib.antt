@@ -1,0 +1,2 @@
+-- One command over stores that are lent.
+pub mod Plan

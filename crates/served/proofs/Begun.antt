@@ -1,0 +1,75 @@
+-- Every run at a desk began with a start: the desk was handed out fresh, and a start among the lines finds stores of their exact lengths, since no
+-- step changes the length of a store.
+-- Assumes nothing.
+use Prim.Native.Nat.{ℕ}
+use mathlib.Core.Path.{_≡_, refl, ap, _∙_}
+use mathlib.Core.List.{List, [], _∷_}
+use lib.ListN.{length, length-replicate}
+use Rattle.order.specs.Order.{run}
+use Rattle.ring.specs.Ring.{archiveLines, logLines, auditLines}
+use Rattle.ring.proofs.Stores.{written-length}
+use Rattle.books.specs.Books.{noArchive, noLog, noAudit}
+use Rattle.cycle.specs.Cycle.{cycled}
+use Rattle.panel.specs.Panel.{turned}
+use Rattle.commands.specs.declared.Command.{Command}
+use Rattle.commands.specs.declared.Entry.{Entry}
+use Rattle.commands.specs.Answers.{World}
+use Rattle.steps.specs.Step.{step}
+use Rattle.desk.specs.Desk.{worldIn}
+use Rattle.desk.specs.Desk as desk
+use Rattle.runs.specs.Run.{Cycle, Turn, Clear, Ask, Call, Commit, corrector, Body}
+use Rattle.runs.specs.Lines.{archiveBy, logBy, auditBy}
+use Rattle.runs.proofs.Effects.{after, leaves}
+use Rattle.runs.proofs.Lines.{log-stores, audit-stores}
+use Rattle.served.specs.Served.{Run, endOf, Part, parts, firstRun, next, lastOf, lastRun, Sized, Begun}
+
+-- ---- no step changes the length of a store
+
+archive-stays : (x : Command) (w : World) → length ((after x w) .archive) ≡ length (w .archive)
+unfolding cycled turned
+archive-stays (Cycle r) w = written-length archiveLines (w .state .core .archive) (w .archive) (archiveBy (Cycle r) w)
+archive-stays (Turn turn) w = refl
+archive-stays Clear w = refl
+archive-stays (Ask question) w = refl
+archive-stays (Call door act) w = refl
+archive-stays (Commit door) w = refl
+
+step-sized : (x : Command) (w : World) → Sized w → Sized ((step x w) .0)
+step-sized x w s = record {
+  archive = leaves (λ (b : Body). length (b .archive)) x w (archive-stays x w) ∙ s .archive;
+  log = leaves (λ (b : Body). length (b .log)) x w (ap length (log-stores x w) ∙ written-length logLines (w .state .core .log .ring) (w .log) (logBy x w)) ∙ s .log;
+  audit = leaves (λ (b : Body). length (b .audit)) x w (ap length (audit-stores x w) ∙ written-length auditLines (w .state .core .audit .ring) (w .audit) (auditBy x w)) ∙ s .audit;
+}
+
+run-sized : (xs : List Command) (w : World) → Sized w → Sized ((run corrector xs w) .1)
+run-sized [] w s = s
+run-sized (x ∷ xs) w s = run-sized xs ((step x w) .0) (step-sized x w s)
+
+-- ---- every run began with a start
+
+next-begun : (p : Part) (r : Run) → Begun (r .from) → Begun (next p r .from)
+unfolding next endOf
+next-begun p r b =
+    let s = run-sized (r .steps) (r .from) (b .sized) in
+    record { time = p .time; supcode = p .supcode; custcode = p .custcode; state = refl; sized = record { archive = s .archive; log = s .log; audit = s .audit } }
+
+last-begun : (r : Run) (ps : List Part) → Begun (r .from) → Begun (lastOf r ps .from)
+unfolding lastOf
+last-begun r [] b = b
+last-begun r (p ∷ ps) b = last-begun (next p r) ps (next-begun p r b)
+
+-- THE RUN UNDER WAY BEGAN WITH A START, where the first did
+pub always-begun : (es : List Entry) (w : World) → Begun w → Begun (lastRun es w .from)
+unfolding lastRun firstRun
+always-begun es w b = last-begun (firstRun es w) (parts es) b
+
+-- A FRESH DESK WAS JUST STARTED
+pub fresh-begun : (time supcode custcode : ℕ) → Begun (worldIn (desk.started time supcode custcode .desk))
+unfolding desk.started
+fresh-begun time supcode custcode = record {
+  time = time;
+  supcode = supcode;
+  custcode = custcode;
+  state = refl;
+  sized = record { archive = length-replicate archiveLines noArchive; log = length-replicate logLines noLog; audit = length-replicate auditLines noAudit };
+}

@@ -1,0 +1,2 @@
+-- Lines put to a desk, as runs.
+pub mod Served

@@ -1,0 +1,3 @@
+-- Lines of text put to a desk, as runs.
+pub mod Spoken
+pub mod SoFar

@@ -1,0 +1,2 @@
+-- What is whole stays whole, and what is not stays as it is.
+pub mod Keeps

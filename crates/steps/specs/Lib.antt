@@ -1,0 +1,2 @@
+-- What each command comes to.
+pub mod Step

@@ -1,0 +1,97 @@
+-- `text::echoes::put_given` meets its contract, by the kind of what is given.
+-- Assumes nothing.
+use borrow.Author.Needs.{needs}
+use native.Mathlib.Omega.{arith}
+use denote.Ref.{now}
+use Rattle.commands.specs.declared.Given.the-variants as given
+use Rattle.text.specs.Echoes.{joined, givenWords}
+use Rattle.text.proofs.Puts.{looser, retext, nothing-put, given-text}
+use Rattle.text.proofs.echoes.put_given.Statement.{statement}
+use Rattle.text.proofs.echoes.put_given.Tie as tie
+
+enum-told : tie.Need-enum-told
+enum-told c = search needs
+
+enum-known-g : tie.Need-enum-known-g
+enum-known-g c = search needs
+
+put-value-requires : tie.Need-put-value-requires
+put-value-requires c κs = search needs
+
+enum-known-g-2 : tie.Need-enum-known-g-2
+enum-known-g-2 c = search needs
+
+put-moment-requires : tie.Need-put-moment-requires
+put-moment-requires c κs = search needs
+
+enum-known-g-3 : tie.Need-enum-known-g-3
+enum-known-g-3 c = search needs
+
+put-archive-requires : tie.Need-put-archive-requires
+put-archive-requires c κs = search needs
+
+enum-known-g-4 : tie.Need-enum-known-g-4
+enum-known-g-4 c = search needs
+
+put-log-requires : tie.Need-put-log-requires
+put-log-requires c κs = search needs
+
+enum-known-g-5 : tie.Need-enum-known-g-5
+enum-known-g-5 c = search needs
+
+put-audit-requires : tie.Need-put-audit-requires
+put-audit-requires c κs = search needs
+
+returns : tie.Need-returns
+unfolding givenWords joined
+returns c =
+    let a = c .before .before .before .args in
+    retext (given-text (a .g) given.Nothing (c .enum-told .given .1)) (nothing-put 165 (now (a .out)) (a .at))
+
+same-length : tie.Need-same-length
+same-length c = search needs
+
+returns-2 : tie.Need-returns-2
+unfolding givenWords
+returns-2 c =
+    let a = c .before .before .before .before .before .before .before .before .args in
+    retext (given-text (a .g) (given.Value _) (c .before .before .before .before .before .g .given .1)) (looser 165 (omega arith) (c .before .before .put-value .ensures))
+
+same-length-2 : tie.Need-same-length-2
+same-length-2 c = search needs
+
+returns-3 : tie.Need-returns-3
+unfolding givenWords
+returns-3 c =
+    let a = c .before .before .before .before .before .before .before .before .args in
+    retext (given-text (a .g) (given.Report _) (c .before .before .before .before .before .g2 .given .1)) (looser 165 (omega arith) (c .before .before .put-moment .ensures))
+
+same-length-3 : tie.Need-same-length-3
+same-length-3 c = search needs
+
+returns-4 : tie.Need-returns-4
+unfolding givenWords
+returns-4 c =
+    let a = c .before .before .before .before .before .before .before .before .args in
+    retext (given-text (a .g) (given.Archive _) (c .before .before .before .before .before .g3 .given .1)) (looser 165 (omega arith) (c .before .before .put-archive .ensures))
+
+same-length-4 : tie.Need-same-length-4
+same-length-4 c = search needs
+
+returns-5 : tie.Need-returns-5
+unfolding givenWords
+returns-5 c =
+    let a = c .before .before .before .before .before .before .before .before .args in
+    retext (given-text (a .g) (given.Log _) (c .before .before .before .before .before .g4 .given .1)) (looser 165 (omega arith) (c .before .before .put-log .ensures))
+
+same-length-5 : tie.Need-same-length-5
+same-length-5 c = search needs
+
+returns-6 : tie.Need-returns-6
+unfolding givenWords
+returns-6 c =
+    let a = c .before .before .before .before .before .before .before .before .args in
+    retext (given-text (a .g) (given.Audit _) (c .before .before .before .before .before .g5 .given .1)) (looser 165 (omega arith) (c .before .before .put-audit .ensures))
+
+pub put-given-spec : {M : Type 1} → statement M
+put-given-spec = tie.close (tie.spec enum-told enum-known-g put-value-requires enum-known-g-2 put-moment-requires enum-known-g-3 put-archive-requires enum-known-g-4 put-log-requires enum-known-g-5 put-audit-requires returns same-length returns-2 same-length-2 returns-3 same-length-3 returns-4 same-length-4 returns-5 same-length-5 returns-6)

@@ -1,0 +1,154 @@
+-- What is said, as a line: a number, words with a space before each, and a line feed at the end.
+-- Assumes nothing.
+use Prim.Native.Nat.{ℕ, zero, suc, _+_, _/_, _%_, _≤_}
+use mathlib.Core.Path.{_≡_}
+use mathlib.Core.Bool.{Bool, cond}
+use mathlib.Core.List.{List, [], _∷_, _++_}
+use lib.Dec.{ltb}
+use lib.ListN.{length, take, drop}
+use lib.IntN.{ℤ, pos, natAbs}
+use lib.Signed.{ltZ}
+use lib.Ieee.{Float, isNan, toBits, binary64}
+use Rattle.books.specs.declared.ArchiveLine.{ArchiveLine}
+use Rattle.books.specs.declared.LogLine.{LogLine}
+use Rattle.books.specs.declared.AuditLine.{AuditLine}
+use Rattle.state.specs.declared.Counters.{Counters}
+use Rattle.state.specs.declared.Alarms.{Alarms}
+use Rattle.state.specs.declared.Moment.{Moment}
+use Rattle.settings.specs.declared.Value.{Value}
+use Rattle.settings.specs.declared.Value.the-variants.{Whole, Coefficient}
+use Rattle.commands.specs.declared.Given.{Given}
+use Rattle.commands.specs.declared.Given.the-variants as given
+use Rattle.commands.specs.declared.Reply.{Reply}
+use Rattle.commands.specs.declared.Echo.{Echo}
+use Rattle.commands.specs.declared.Echo.the-variants as echo
+
+-- ---- a text put at a place
+
+-- the text stands at the place, what was before it still does, the next place is after it, at most n bytes on, what is from there on stays as it
+-- was, and the line has the same room
+pub record Put (n : ℕ) (old new : List ℕ) (at next : ℕ) (text : List ℕ) : Type 0 where
+  pub holds : take next new ≡ take at old ++ text
+  pub least : at ≤ next
+  pub most : next ≤ at + n
+  pub past : drop next new ≡ drop next old
+  pub room : length new ≡ length old
+
+-- ---- numbers
+
+-- `0` to `9`, then `a` to `f`
+unfoldable pub glyph : ℕ → ℕ
+glyph d = cond (ltb d 10) (48 + d) (87 + d)
+
+-- the last k digits of n in this base, the first of them first
+unfoldable pub digits : ℕ → ℕ → ℕ → List ℕ
+digits base zero n = []
+digits base (suc k) n = digits base k (n / base) ++ (glyph (n % base) ∷ [])
+
+-- one digit, and as many more as it takes, up to m more
+unfoldable pub placesUpTo : ℕ → ℕ → ℕ
+placesUpTo zero n = 1
+placesUpTo (suc m) n = cond (ltb n 10) 1 (suc (placesUpTo m (n / 10)))
+
+-- how many digits a number of 64 bits has: at most 20
+unfoldable pub places : ℕ → ℕ
+places n = placesUpTo 19 n
+
+unfoldable pub decimal : ℕ → List ℕ
+decimal n = digits 10 (places n) n
+
+-- with `-` before its digits where it is below zero
+unfoldable pub signed : ℤ → List ℕ
+signed n = cond (ltZ n (pos 0)) (45 ∷ decimal (natAbs n)) (decimal (natAbs n))
+
+-- the bits of a float; a NaN has none of its own, and is never printed: 0
+unfoldable pub bitsOf : Float → ℕ
+bitsOf f = cond (isNan f) 0 (toBits binary64 f)
+
+-- `1` or `0`
+unfoldable pub flag : Bool → ℕ
+flag on = cond on 49 48
+
+-- ---- words
+
+-- a word and the space before it
+abbrev pub spaced : List ℕ → List ℕ
+spaced w = 32 ∷ w
+
+-- words in a row, each with the space before it
+unfoldable pub joined : List (List ℕ) → List ℕ
+joined [] = []
+joined (w ∷ ws) = spaced w ++ joined ws
+
+-- `w` and a whole number, or `c` and 16 hexadecimal digits
+unfoldable pub valueWords : Value → List (List ℕ)
+valueWords (Whole n) = (119 ∷ []) ∷ signed n ∷ []
+valueWords (Coefficient f) = (99 ∷ []) ∷ digits 16 16 (bitsOf f) ∷ []
+
+unfoldable pub flagWords : Bool → Bool → Bool → List (List ℕ)
+flagWords a b c = (flag a ∷ []) ∷ (flag b ∷ []) ∷ (flag c ∷ []) ∷ []
+
+unfoldable pub numberWords : ℕ → ℕ → ℕ → ℕ → List (List ℕ)
+numberWords a b c d = decimal a ∷ decimal b ∷ decimal c ∷ decimal d ∷ []
+
+-- ---- the words of each kind of line
+
+-- MONTH Vm VmD Vb VbD
+unfoldable pub archiveWords : ArchiveLine → List (List ℕ)
+archiveWords l = decimal (l .month) ∷ numberWords (l .vm .0) (l .vmd .0) (l .vb .0) (l .vbd .0)
+
+-- NUMBER TIME CODE
+unfoldable pub logWords : LogLine → List (List ℕ)
+logWords l = decimal (l .number) ∷ decimal (l .time) ∷ decimal (l .code) ∷ []
+
+-- NUMBER TIME DOOR SETTING, the old value, the new value
+unfoldable pub auditWords : AuditLine → List (List ℕ)
+auditWords l = numberWords (l .number) (l .time) (l .door) (l .setting) ++ (valueWords (l .old) ++ valueWords (l .new))
+
+-- Vm VmD Vb VbD
+unfoldable pub counterWords : Counters → List (List ℕ)
+counterWords c = numberWords (c .vm .0) (c .vmd .0) (c .vb .0) (c .vbd .0)
+
+-- p T K, the alarms and then the latches
+unfoldable pub lampWords : Alarms → Alarms → List (List ℕ)
+lampWords alarms latches = flagWords (alarms .p) (alarms .t) (alarms .k) ++ flagWords (latches .p) (latches .t) (latches .k)
+
+-- TIME Vm VmD Vb VbD VmT VbT, the alarms, the latches, the three locks
+unfoldable pub momentWords : Moment → List (List ℕ)
+momentWords m =
+    (decimal (m .time) ∷ [])
+    ++ (counterWords (m .counters)
+    ++ ((decimal (m .vmt .0) ∷ decimal (m .vbt .0) ∷ [])
+    ++ (lampWords (m .alarms) (m .latches)
+    ++ flagWords (m .cal) (m .sup) (m .cust))))
+
+-- ---- lines
+
+-- what is given beside the number
+unfoldable pub givenWords : Given → List (List ℕ)
+givenWords given.Nothing = []
+givenWords (given.Value v) = valueWords v
+givenWords (given.Report m) = momentWords m
+givenWords (given.Archive l) = archiveWords l
+givenWords (given.Log l) = logWords l
+givenWords (given.Audit l) = auditWords l
+
+-- the number on the fault card, 0 where done, the words of what is given, and the line feed
+unfoldable pub saidText : Reply → List ℕ
+saidText r = decimal (r .number) ++ (joined (givenWords (r .given)) ++ (10 ∷ []))
+
+-- `?` and the line feed
+unfoldable pub unknownText : List ℕ
+unknownText = 63 ∷ 10 ∷ []
+
+unfoldable pub echoText : Echo → List ℕ
+echoText echo.Nothing = []
+echoText echo.Unknown = unknownText
+echoText (echo.Said r) = saidText r
+
+-- the room that any echo's line has enough of; with less from its place on, nothing is put
+abbrev pub enough : ℕ
+enough = 256
+
+unfoldable pub textFor : List ℕ → ℕ → Echo → List ℕ
+textFor out at e = cond (ltb (length out) (at + enough)) [] (echoText e)

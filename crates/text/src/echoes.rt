@@ -1,0 +1,281 @@
+// What is said, as a line. Each function puts its text at a place of the line and answers the place after it.
+use commands::Echo;
+use commands::Given;
+use commands::Reply;
+ghost use mathlib.Core.Path.{_≡_};
+ghost use mathlib.Core.List.{[], _∷_};
+ghost use Prim.Native.Nat.{_+_, _≤_, _<_};
+ghost use lib.ListN.{length};
+ghost use lib.IntN.{natAbs};
+ghost use Rattle.text.specs.Echoes.{Put, glyph, digits, places, decimal, spaced, flag, signed, bitsOf, valueWords, joined, flagWords, numberWords, archiveWords, logWords, auditWords, counterWords, lampWords, momentWords, givenWords, saidText, unknownText, textFor};
+
+// More than the longest line: a report's seven numbers of 20 digits, nine flags, and a space before each.
+const ROOM: usize = 256;
+
+fn put_byte(out: &mut [u8], at: usize, b: u8) -> usize
+    requires { ⌜ at < length (now out) ⌝ }
+    ensures { λ r. ⌜ Put 1 (now (out .entry)) (now (out .exit)) at r (b ∷ []) ⌝ }
+{
+    out[at] = b;
+    at + 1
+}
+
+fn glyph_of(d: u64) -> u8
+    requires { ⌜ d < 16 ⌝ }
+    ensures { λ r. ⌜ r ≡ glyph d ⌝ }
+{
+    if d < 10 { 48 + d as u8 } else { 87 + d as u8 }
+}
+
+// How many decimal digits a number has.
+fn places_of(n: u64) -> usize
+    ensures { λ r. ⌜ r ≡ places n ⌝ }
+{
+    let mut rest = n;
+    let mut k = 1;
+    while k < 20 {
+        if rest < 10 {
+            return k;
+        }
+        rest = rest / 10;
+        k += 1;
+    }
+    k
+}
+
+// The last k digits of a number, from the last to the first.
+fn put_digits(out: &mut [u8], at: usize, base: u64, k: usize, n: u64) -> usize
+    requires { ⌜ (at + k ≤ length (now out)) × ((1 < base) × (base ≤ 16)) ⌝ }
+    ensures { λ r. ⌜ Put k (now (out .entry)) (now (out .exit)) at r (digits base k n) ⌝ }
+{
+    let mut i = k;
+    let mut rest = n;
+    while 0 < i {
+        i -= 1;
+        out[at + i] = glyph_of(rest % base);
+        rest = rest / base;
+    }
+    at + k
+}
+
+// ---- words, each after a space
+
+fn put_number(out: &mut [u8], at: usize, n: u64) -> usize
+    requires { ⌜ at + 21 ≤ length (now out) ⌝ }
+    ensures { λ r. ⌜ Put 21 (now (out .entry)) (now (out .exit)) at r (spaced (decimal n)) ⌝ }
+{
+    let next = put_byte(out, at, 32);
+    let k = places_of(n);
+    put_digits(out, next, 10, k, n)
+}
+
+fn flag_of(on: bool) -> u8
+    ensures { λ r. ⌜ r ≡ flag on ⌝ }
+{
+    if on { 49 } else { 48 }
+}
+
+fn put_flag(out: &mut [u8], at: usize, on: bool) -> usize
+    requires { ⌜ at + 2 ≤ length (now out) ⌝ }
+    ensures { λ r. ⌜ Put 2 (now (out .entry)) (now (out .exit)) at r (spaced (flag on ∷ [])) ⌝ }
+{
+    let next = put_byte(out, at, 32);
+    let b = flag_of(on);
+    put_byte(out, next, b)
+}
+
+// A whole number without its sign.
+fn magnitude(n: i64) -> u64
+    ensures { λ r. ⌜ r ≡ natAbs n ⌝ }
+{
+    if n < 0 {
+        return (-1 - n) as u64 + 1;
+    }
+    n as u64
+}
+
+fn put_signed(out: &mut [u8], at: usize, n: i64) -> usize
+    requires { ⌜ at + 22 ≤ length (now out) ⌝ }
+    ensures { λ r. ⌜ Put 22 (now (out .entry)) (now (out .exit)) at r (spaced (signed n)) ⌝ }
+{
+    let negative = ground::less(n, 0);
+    let size = magnitude(n);
+    if negative {
+        let next = put_byte(out, at, 32);
+        let third = put_byte(out, next, 45);
+        let k = places_of(size);
+        return put_digits(out, third, 10, k, size);
+    }
+    put_number(out, at, size)
+}
+
+// 0 for a NaN, which no setting ever is.
+fn bits_of(f: f64) -> u64
+    ensures { λ r. ⌜ r ≡ bitsOf f ⌝ }
+{
+    if f == f {
+        return f64::to_bits(f);
+    }
+    0
+}
+
+fn put_value(out: &mut [u8], at: usize, v: settings::Value) -> usize
+    requires { ⌜ at + 24 ≤ length (now out) ⌝ }
+    ensures { λ r. ⌜ Put 24 (now (out .entry)) (now (out .exit)) at r (joined (valueWords v)) ⌝ }
+{
+    let next = put_byte(out, at, 32);
+    match v {
+        settings::Value::Whole(n) => {
+            let third = put_byte(out, next, 119);
+            put_signed(out, third, n)
+        }
+        settings::Value::Coefficient(f) => {
+            let third = put_byte(out, next, 99);
+            let fourth = put_byte(out, third, 32);
+            let bits = bits_of(f);
+            put_digits(out, fourth, 16, 16, bits)
+        }
+    }
+}
+
+fn put_three(out: &mut [u8], at: usize, a: bool, b: bool, c: bool) -> usize
+    requires { ⌜ at + 6 ≤ length (now out) ⌝ }
+    ensures { λ r. ⌜ Put 6 (now (out .entry)) (now (out .exit)) at r (joined (flagWords a b c)) ⌝ }
+{
+    let second = put_flag(out, at, a);
+    let third = put_flag(out, second, b);
+    put_flag(out, third, c)
+}
+
+fn put_four(out: &mut [u8], at: usize, a: u64, b: u64, c: u64, d: u64) -> usize
+    requires { ⌜ at + 84 ≤ length (now out) ⌝ }
+    ensures { λ r. ⌜ Put 84 (now (out .entry)) (now (out .exit)) at r (joined (numberWords a b c d)) ⌝ }
+{
+    let second = put_number(out, at, a);
+    let third = put_number(out, second, b);
+    let fourth = put_number(out, third, c);
+    put_number(out, fourth, d)
+}
+
+// ---- the words of each kind of line
+
+fn put_archive(out: &mut [u8], at: usize, l: books::ArchiveLine) -> usize
+    requires { ⌜ at + 105 ≤ length (now out) ⌝ }
+    ensures { λ r. ⌜ Put 105 (now (out .entry)) (now (out .exit)) at r (joined (archiveWords l)) ⌝ }
+{
+    let vm = l.vm;
+    let vmd = l.vmd;
+    let vb = l.vb;
+    let vbd = l.vbd;
+    let next = put_number(out, at, l.month);
+    put_four(out, next, vm.0, vmd.0, vb.0, vbd.0)
+}
+
+fn put_log(out: &mut [u8], at: usize, l: books::LogLine) -> usize
+    requires { ⌜ at + 63 ≤ length (now out) ⌝ }
+    ensures { λ r. ⌜ Put 63 (now (out .entry)) (now (out .exit)) at r (joined (logWords l)) ⌝ }
+{
+    let second = put_number(out, at, l.number as u64);
+    let third = put_number(out, second, l.time);
+    put_number(out, third, l.code)
+}
+
+fn put_audit(out: &mut [u8], at: usize, l: books::AuditLine) -> usize
+    requires { ⌜ at + 132 ≤ length (now out) ⌝ }
+    ensures { λ r. ⌜ Put 132 (now (out .entry)) (now (out .exit)) at r (joined (auditWords l)) ⌝ }
+{
+    let old = l.old;
+    let new = l.new;
+    let next = put_four(out, at, l.number as u64, l.time, l.door, l.setting);
+    let last = put_value(out, next, old);
+    put_value(out, last, new)
+}
+
+fn put_counts(out: &mut [u8], at: usize, c: state::Counters) -> usize
+    requires { ⌜ at + 84 ≤ length (now out) ⌝ }
+    ensures { λ r. ⌜ Put 84 (now (out .entry)) (now (out .exit)) at r (joined (counterWords c)) ⌝ }
+{
+    let vm = c.vm;
+    let vmd = c.vmd;
+    let vb = c.vb;
+    let vbd = c.vbd;
+    put_four(out, at, vm.0, vmd.0, vb.0, vbd.0)
+}
+
+fn put_lamps(out: &mut [u8], at: usize, alarms: state::Alarms, latches: state::Alarms) -> usize
+    requires { ⌜ at + 12 ≤ length (now out) ⌝ }
+    ensures { λ r. ⌜ Put 12 (now (out .entry)) (now (out .exit)) at r (joined (lampWords alarms latches)) ⌝ }
+{
+    let next = put_three(out, at, alarms.p, alarms.t, alarms.k);
+    put_three(out, next, latches.p, latches.t, latches.k)
+}
+
+fn put_moment(out: &mut [u8], at: usize, m: state::Moment) -> usize
+    requires { ⌜ at + 165 ≤ length (now out) ⌝ }
+    ensures { λ r. ⌜ Put 165 (now (out .entry)) (now (out .exit)) at r (joined (momentWords m)) ⌝ }
+{
+    let counters = m.counters;
+    let vmt = m.vmt;
+    let vbt = m.vbt;
+    let alarms = m.alarms;
+    let latches = m.latches;
+    let second = put_number(out, at, m.time);
+    let third = put_counts(out, second, counters);
+    let fourth = put_number(out, third, vmt.0);
+    let fifth = put_number(out, fourth, vbt.0);
+    let sixth = put_lamps(out, fifth, alarms, latches);
+    put_three(out, sixth, m.cal, m.sup, m.cust)
+}
+
+// ---- lines
+
+fn put_given(out: &mut [u8], at: usize, g: Given) -> usize
+    requires { ⌜ at + 165 ≤ length (now out) ⌝ }
+    ensures { λ r. ⌜ Put 165 (now (out .entry)) (now (out .exit)) at r (joined (givenWords g)) ⌝ }
+{
+    match g {
+        Given::Nothing => at,
+        Given::Value(v) => put_value(out, at, v),
+        Given::Report(m) => put_moment(out, at, m),
+        Given::Archive(l) => put_archive(out, at, l),
+        Given::Log(l) => put_log(out, at, l),
+        Given::Audit(l) => put_audit(out, at, l),
+    }
+}
+
+fn said_line(out: &mut [u8], at: usize, reply: Reply) -> usize
+    requires { ⌜ at + 256 ≤ length (now out) ⌝ }
+    ensures { λ r. ⌜ Put 256 (now (out .entry)) (now (out .exit)) at r (saidText reply) ⌝ }
+{
+    let n = reply.number;
+    let given = reply.given;
+    let k = places_of(n);
+    let next = put_digits(out, at, 10, k, n);
+    let last = put_given(out, next, given);
+    put_byte(out, last, 10)
+}
+
+fn unknown_line(out: &mut [u8], at: usize) -> usize
+    requires { ⌜ at + 256 ≤ length (now out) ⌝ }
+    ensures { λ r. ⌜ Put 256 (now (out .entry)) (now (out .exit)) at r unknownText ⌝ }
+{
+    let next = put_byte(out, at, 63);
+    put_byte(out, next, 10)
+}
+
+// Nothing is put where there is not room for any line.
+pub fn echo_line(out: &mut [u8], at: usize, echo: Echo) -> usize
+    ensures { λ r. ⌜ Put 256 (now (out .entry)) (now (out .exit)) at r (textFor (now (out .entry)) at echo) ⌝ }
+{
+    if out.len() < at {
+        return at;
+    }
+    if out.len() - at < ROOM {
+        return at;
+    }
+    match echo {
+        Echo::Nothing => at,
+        Echo::Unknown => unknown_line(out, at),
+        Echo::Said(reply) => said_line(out, at, reply),
+    }
+}

@@ -1,3 +1,0 @@
--- The types that walks hand over, and the laws of the ways through the code.
-pub mod Planned
-pub mod Types
