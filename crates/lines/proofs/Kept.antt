@@ -20,16 +20,16 @@ use Rattle.lines.proofs.Cuts.{cut-first}
 use Rattle.lines.specs.Lines.{lineFeed, inFront, wholeLines, bytesOf, inBlock, inputsOf, inputsIn, servedLines, saidLines}
 
 -- bytes put before the first of these lines; where there is none they are in no whole line
-ahead : List ℕ → List (List ℕ) → List (List ℕ)
+unfoldable pub ahead : List ℕ → List (List ℕ) → List (List ℕ)
 ahead a [] = []
 ahead a (line ∷ lines) = (a ++ line) ∷ lines
 
-ahead-none : (ls : List (List ℕ)) → ls ≡ ahead [] ls
+pub ahead-none : (ls : List (List ℕ)) → ls ≡ ahead [] ls
 unfolding ahead
 ahead-none [] = refl
 ahead-none (l ∷ ls) = refl
 
-ahead-more : (x : ℕ) (a : List ℕ) (ls : List (List ℕ)) → inFront x (ahead a ls) ≡ ahead (x ∷ a) ls
+pub ahead-more : (x : ℕ) (a : List ℕ) (ls : List (List ℕ)) → inFront x (ahead a ls) ≡ ahead (x ∷ a) ls
 unfolding ahead inFront
 ahead-more x a [] = refl
 ahead-more x a (l ∷ ls) = refl

@@ -104,7 +104,7 @@ archive-tells (Ask question) w n e = no-more (ringAfter archiveLines) (w .state 
 archive-tells (Call door act) w n e = no-more (ringAfter archiveLines) (w .state .core .archive) n e
 archive-tells (Commit door) w n e = no-more (ringAfter archiveLines) (w .state .core .archive) n e
 
-archive-stores : (x : Step) (w : World) → (after x w) .archive ≡ written archiveLines (w .state .core .archive) (w .archive) (archiveBy x w)
+pub archive-stores : (x : Step) (w : World) → (after x w) .archive ≡ written archiveLines (w .state .core .archive) (w .archive) (archiveBy x w)
 unfolding written cycled turned
 archive-stores (Cycle r) w = refl
 archive-stores (Turn turn) w = refl

@@ -20,23 +20,14 @@ use Rattle.desk.specs.Desk as desk
 use Rattle.runs.specs.Run.{Cycle, Turn, Clear, Ask, Call, Commit, corrector, Body}
 use Rattle.runs.specs.Lines.{archiveBy, logBy, auditBy}
 use Rattle.runs.proofs.Effects.{after, leaves}
-use Rattle.runs.proofs.Lines.{log-stores, audit-stores}
+use Rattle.runs.proofs.Lines.{archive-stores, log-stores, audit-stores}
 use Rattle.served.specs.Served.{Run, endOf, Part, parts, firstRun, next, lastOf, lastRun, Sized, Begun}
 
 -- ---- no step changes the length of a store
 
-archive-stays : (x : Command) (w : World) → length ((after x w) .archive) ≡ length (w .archive)
-unfolding cycled turned
-archive-stays (Cycle r) w = written-length archiveLines (w .state .core .archive) (w .archive) (archiveBy (Cycle r) w)
-archive-stays (Turn turn) w = refl
-archive-stays Clear w = refl
-archive-stays (Ask question) w = refl
-archive-stays (Call door act) w = refl
-archive-stays (Commit door) w = refl
-
 step-sized : (x : Command) (w : World) → Sized w → Sized ((step x w) .0)
 step-sized x w s = record {
-  archive = leaves (λ (b : Body). length (b .archive)) x w (archive-stays x w) ∙ s .archive;
+  archive = leaves (λ (b : Body). length (b .archive)) x w (ap length (archive-stores x w) ∙ written-length archiveLines (w .state .core .archive) (w .archive) (archiveBy x w)) ∙ s .archive;
   log = leaves (λ (b : Body). length (b .log)) x w (ap length (log-stores x w) ∙ written-length logLines (w .state .core .log .ring) (w .log) (logBy x w)) ∙ s .log;
   audit = leaves (λ (b : Body). length (b .audit)) x w (ap length (audit-stores x w) ∙ written-length auditLines (w .state .core .audit .ring) (w .audit) (auditBy x w)) ∙ s .audit;
 }

@@ -12,6 +12,7 @@ use lib.ListN.{length, take, drop, take-append-drop}
 use lib.Seq.{take-all}
 use Rattle.text.specs.Words.{deciding}
 use Rattle.text.proofs.Cut.{cut-continued}
+use Rattle.lines.proofs.Kept.{ahead, ahead-none, ahead-more}
 use Rattle.lines.specs.Lines.{lineFeed, inFront, wholeLines, bytesOf}
 use Rattle.spoken.specs.Spoken.{entriesOf}
 
@@ -65,21 +66,6 @@ cut-unfinished n a h =
     let all : take (length w) w ≡ w = take-all (length w) w (le-refl (length w)) in
     none-of w (wholeLines (behind (length w) (take n a) ++ drop n a))
     (ap (λ (l : List (List ℕ)). l ++ wholeLines (behind (length w) (take n a) ++ drop n a)) (sym all) ∙ sym e ∙ ap wholeLines (take-append-drop n a) ∙ h)
-
--- bytes put before the first of these lines; where there is none they are in no whole line
-ahead : List ℕ → List (List ℕ) → List (List ℕ)
-ahead a [] = []
-ahead a (line ∷ lines) = (a ++ line) ∷ lines
-
-ahead-none : (ls : List (List ℕ)) → ls ≡ ahead [] ls
-unfolding ahead
-ahead-none [] = refl
-ahead-none (l ∷ ls) = refl
-
-ahead-more : (x : ℕ) (a : List ℕ) (ls : List (List ℕ)) → inFront x (ahead a ls) ≡ ahead (x ∷ a) ls
-unfolding ahead inFront
-ahead-more x a [] = refl
-ahead-more x a (l ∷ ls) = refl
 
 -- where a byte more makes no whole line, it is no line feed, and there was none before
 not-passed : (x : ℕ) (ls : List (List ℕ)) (t : Bool) → cond t ([] ∷ ls) (inFront x ls) ≡ [] → (t ≡ false) × (ls ≡ [])
