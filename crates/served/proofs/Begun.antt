@@ -9,15 +9,13 @@ use Rattle.order.specs.Order.{run}
 use Rattle.ring.specs.Ring.{archiveLines, logLines, auditLines}
 use Rattle.ring.proofs.Stores.{written-length}
 use Rattle.books.specs.Books.{noArchive, noLog, noAudit}
-use Rattle.cycle.specs.Cycle.{cycled}
-use Rattle.panel.specs.Panel.{turned}
 use Rattle.commands.specs.declared.Command.{Command}
 use Rattle.commands.specs.declared.Entry.{Entry}
 use Rattle.commands.specs.Answers.{World}
 use Rattle.steps.specs.Step.{step}
 use Rattle.desk.specs.Desk.{worldIn}
 use Rattle.desk.specs.Desk as desk
-use Rattle.runs.specs.Run.{Cycle, Turn, Clear, Ask, Call, Commit, corrector, Body}
+use Rattle.runs.specs.Run.{corrector, Body}
 use Rattle.runs.specs.Lines.{archiveBy, logBy, auditBy}
 use Rattle.runs.proofs.Effects.{after, leaves}
 use Rattle.runs.proofs.Lines.{archive-stores, log-stores, audit-stores}
