@@ -98,7 +98,7 @@ blank s = record { state = s; archive = replicate archiveLines noArchive; log = 
 
 -- the months of the archive lines held, newest first
 unfoldable pub monthsHeld : World → List ℕ
-monthsHeld w = map (λ (l : ArchiveLine). l .month) (heldLines archiveLines noArchive (w .state .core .archive) (w .archive))
+monthsHeld w = map (λ (l : ArchiveLine). l .month) (heldLines archiveLines noArchive (w .state .core .stores .archive) (w .archive))
 
 -- a run: the numbers of its answers, and the test of what is seen at the end
 unfoldable pub ranTo : State → List Step → List ℕ → (World → Bool) → Bool
@@ -132,9 +132,7 @@ withVm c vm = record {
   latches = c .latches;
   locks = c .locks;
   settings = c .settings;
-  archive = c .archive;
-  log = c .log;
-  audit = c .audit;
+  stores = c .stores;
 }
 
 -- a cycle at a time, of n pulses, raw 7,680 and a pressure in pascals; K is not computed

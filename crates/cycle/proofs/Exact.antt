@@ -118,7 +118,7 @@ module _ (a b : List Setting) (same : (k : ℕ) → k < 16 → valueAt a k ≡ v
 abbrev pub withSettings : State → List Setting → State
 withSettings s b =
     let c = s .core in
-    withCore s (record { measured = c .measured; latches = c .latches; locks = c .locks; settings = b; archive = c .archive; log = c .log; audit = c .audit })
+    withCore s (record { measured = c .measured; latches = c .latches; locks = c .locks; settings = b; stores = c .stores })
 
 abbrev pub outcomeWith : Outcome → List Setting → Outcome
 outcomeWith o b = withBoth (record { reply = o .answer .reply; state = withSettings (o .answer .state) b }) (o .archive) (o .log)

@@ -177,22 +177,22 @@ never-fourteen s archiveLength logLength r e =
 
 -- the lines held after a cycle, newest first: one for every month crossed, and those that were held, as far as the archive goes
 pub archive-after : (s : State) (r : Brought) (archive : List ArchiveLine) (log : List LogLine) → wholeB s ≡ true → length archive ≡ archiveLines →
-    heldLines archiveLines noArchive (cycledCore (s .core) r .archive) (cycled s r archive log .archive)
-    ≡ take archiveLines (reverse (monthLines (s .core .measured .counters) (s .core .measured .month) (monthOf (r .time))) ++ heldLines archiveLines noArchive (s .core .archive) archive)
+    heldLines archiveLines noArchive (cycledCore (s .core) r .stores .archive) (cycled s r archive log .archive)
+    ≡ take archiveLines (reverse (monthLines (s .core .measured .counters) (s .core .measured .month) (monthOf (r .time))) ++ heldLines archiveLines noArchive (s .core .stores .archive) archive)
 unfolding cycled cycledCore
 archive-after s r archive log w e =
-    whole-written archiveLines noArchive (s .core .archive) archive (monthLines (s .core .measured .counters) (s .core .measured .month) (monthOf (r .time))) (omega arith) e
-    (ring-from archiveLines (s .core .archive) (whole-sound s w .core .archive-held))
+    whole-written archiveLines noArchive (s .core .stores .archive) archive (monthLines (s .core .measured .counters) (s .core .measured .month) (monthOf (r .time))) (omega arith) e
+    (ring-from archiveLines (s .core .stores .archive) (whole-sound s w .core .archive-held))
 
 -- and of the logbook: the alarms that came or went, at the cycle's own time
 pub log-after : (s : State) (r : Brought) (archive : List ArchiveLine) (log : List LogLine) → wholeB s ≡ true → length log ≡ logLines →
-    heldLines logLines noLog (cycledCore (s .core) r .log .ring) (cycled s r archive log .log)
-    ≡ take logLines (reverse (logged (s .core .log) (r .time) (changes (s .core .measured .alarms) (alarmsFor (s .core .settings) r))) ++ heldLines logLines noLog (s .core .log .ring) log)
+    heldLines logLines noLog (cycledCore (s .core) r .stores .log .ring) (cycled s r archive log .log)
+    ≡ take logLines (reverse (logged (s .core .stores .log) (r .time) (changes (s .core .measured .alarms) (alarmsFor (s .core .settings) r))) ++ heldLines logLines noLog (s .core .stores .log .ring) log)
 unfolding cycled cycledCore advancedBook logged
 log-after s r archive log w e =
     let codes : List ℕ = changes (s .core .measured .alarms) (alarmsFor (s .core .settings) r) in
-    let lines : List LogLine = numbered (s .core .log .number) (r .time) codes in
-    let held : FromFresh (ringAfter logLines) (s .core .log .ring) = book-ring logLines (s .core .log) (book-from log-common (s .core .log) (whole-sound s w .core .log-held)) in
-    ap (λ (n : ℕ). heldLines logLines noLog (advancedRing logLines n (s .core .log .ring)) (written logLines (s .core .log .ring) log lines))
-    (sym (numbered-length (s .core .log .number) (r .time) codes))
-    ∙ whole-written logLines noLog (s .core .log .ring) log lines (omega arith) e held
+    let lines : List LogLine = numbered (s .core .stores .log .number) (r .time) codes in
+    let held : FromFresh (ringAfter logLines) (s .core .stores .log .ring) = book-ring logLines (s .core .stores .log) (book-from log-common (s .core .stores .log) (whole-sound s w .core .log-held)) in
+    ap (λ (n : ℕ). heldLines logLines noLog (advancedRing logLines n (s .core .stores .log .ring)) (written logLines (s .core .stores .log .ring) log lines))
+    (sym (numbered-length (s .core .stores .log .number) (r .time) codes))
+    ∙ whole-written logLines noLog (s .core .stores .log .ring) log lines (omega arith) e held

@@ -169,9 +169,11 @@ cycledCore c r = record {
   latches = latchesAfter (c .latches) (alarmsFor (c .settings) r);
   locks = c .locks;
   settings = c .settings;
-  archive = advancedRing archiveLines (length (monthLines (c .measured .counters) (c .measured .month) (monthOf (r .time)))) (c .archive);
-  log = advancedBook logLines (length (changes (c .measured .alarms) (alarmsFor (c .settings) r))) (c .log);
-  audit = c .audit;
+  stores = record {
+    archive = advancedRing archiveLines (length (monthLines (c .measured .counters) (c .measured .month) (monthOf (r .time)))) (c .stores .archive);
+    log = advancedBook logLines (length (changes (c .measured .alarms) (alarmsFor (c .settings) r))) (c .stores .log);
+    audit = c .stores .audit;
+  };
 }
 
 -- where no refusal applies: the state after it, the archive with a line for every month crossed, and the logbook with the alarms that came
@@ -180,8 +182,8 @@ unfoldable pub cycled : State → Brought → List ArchiveLine → List LogLine 
 cycled s r archive log =
     withBoth
     (record { reply = plain 0; state = record { core = cycledCore (s .core) r; keypad = s .keypad; port = s .port } })
-    (written archiveLines (s .core .archive) archive (monthLines (s .core .measured .counters) (s .core .measured .month) (monthOf (r .time))))
-    (written logLines (s .core .log .ring) log (logged (s .core .log) (r .time) (changes (s .core .measured .alarms) (alarmsFor (s .core .settings) r))))
+    (written archiveLines (s .core .stores .archive) archive (monthLines (s .core .measured .counters) (s .core .measured .month) (monthOf (r .time))))
+    (written logLines (s .core .stores .log .ring) log (logged (s .core .stores .log) (r .time) (changes (s .core .measured .alarms) (alarmsFor (s .core .settings) r))))
 
 -- a refusal returns its number, and leaves all as it was
 unfoldable pub cycleOf : State → Brought → List ArchiveLine → List LogLine → Outcome

@@ -48,12 +48,12 @@ unfolding refusedCommit
 refused-ended s door number h = rw (le-leb 10 number h)
 
 done-by : (s : State) (door : ℕ) (l : List AuditLine) → eqb (commitRefusal (wholeB s) s door (length l)) 0 ≡ true →
-    (commitOf s door l .answer .state ≡ committed s door) × (commitOf s door l .audit ≡ written auditLines (s .core .audit .ring) l (commitLines s door))
+    (commitOf s door l .answer .state ≡ committed s door) × (commitOf s door l .audit ≡ written auditLines (s .core .stores .audit .ring) l (commitLines s door))
 unfolding commitOf
 done-by s door l t = (rw t, rw t)
 
 pub commit-done : (s : State) (door : ℕ) (l : List AuditLine) → commitOf s door l .answer .reply .number ≡ 0 →
-    (commitOf s door l .answer .state ≡ committed s door) × (commitOf s door l .audit ≡ written auditLines (s .core .audit .ring) l (commitLines s door))
+    (commitOf s door l .answer .state ≡ committed s door) × (commitOf s door l .audit ≡ written auditLines (s .core .stores .audit .ring) l (commitLines s door))
 commit-done s door l e = done-by s door l (eq-eqb (commitRefusal (wholeB s) s door (length l)) 0 (sym (commit-number s door l) ∙ e))
 
 -- ---- the two sessions of a placed state
@@ -222,6 +222,6 @@ ended-knows s door n h = and-left (wholeB s) (eqb n auditLines) (not-false (whol
 
 -- a line that is given is line i of those held, newest first
 pub audit-line-held : (s : State) (i : ℕ) (audit : List AuditLine) → auditLineOf s i audit .number ≡ 0
-    → auditLineOf s i audit .given ≡ given.Audit (getD (heldLines auditLines noAudit (s .core .audit .ring) audit) i noAudit)
+    → auditLineOf s i audit .given ≡ given.Audit (getD (heldLines auditLines noAudit (s .core .stores .audit .ring) audit) i noAudit)
 unfolding auditLineBy
-audit-line-held s i audit e = rw (e, line-read noAudit (wholeB s) auditLines (length audit) (s .core .audit .ring) i audit e)
+audit-line-held s i audit e = rw (e, line-read noAudit (wholeB s) auditLines (length audit) (s .core .stores .audit .ring) i audit e)

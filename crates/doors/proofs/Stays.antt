@@ -267,7 +267,7 @@ core-stays s door n lines a =
       latched = p .latched;
       archive-held = p .archive-held;
       log-held = p .log-held;
-      audit-held = book-stays audit-common lines (s .core .audit) (p .audit-held);
+      audit-held = book-stays audit-common lines (s .core .stores .audit) (p .audit-held);
     }
 
 pub committed-whole : (s : State) (door n : ℕ) → commitRefusal (wholeB s) s door n ≡ 0 → wholeB (committed s door) ≡ true

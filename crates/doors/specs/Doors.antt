@@ -180,7 +180,7 @@ auditOf b time door a cells (suc k) =
 
 -- the lines of a commit at a door; the time is that of the last accepted cycle
 unfoldable pub commitLines : State → ℕ → List AuditLine
-commitLines s door = auditOf (s .core .audit) (s .core .measured .time) door (s .core .settings) (sessionAt s door .cells) settingCount
+commitLines s door = auditOf (s .core .stores .audit) (s .core .measured .time) door (s .core .settings) (sessionAt s door .cells) settingCount
 
 -- the other door's session is marked where it had read a setting that is now put in force
 unfoldable pub markedBy : Cell → Cell → Cell
@@ -200,9 +200,7 @@ committedCore c cells lines = record {
   latches = c .latches;
   locks = c .locks;
   settings = asStand (c .settings) cells;
-  archive = c .archive;
-  log = c .log;
-  audit = advancedBook auditLines lines (c .audit);
+  stores = record { archive = c .stores .archive; log = c .stores .log; audit = advancedBook auditLines lines (c .stores .audit) };
 }
 
 -- all staged values in force together, the other door marked, and the session ended
@@ -219,14 +217,14 @@ unfoldable pub commitOf : State → ℕ → List AuditLine → Outcome
 commitOf s door audit =
     let number = commitRefusal (wholeB s) s door (length audit) in
     cond (eqb number 0)
-    (withAudit (record { reply = plain 0; state = committed s door }) (written auditLines (s .core .audit .ring) audit (commitLines s door)))
+    (withAudit (record { reply = plain 0; state = committed s door }) (written auditLines (s .core .stores .audit .ring) audit (commitLines s door)))
     (withAudit (record { reply = plain number; state = refusedCommit s door number }) audit)
 
 -- ---- a line of the audit trail
 
 unfoldable pub auditLineBy : Bool → State → ℕ → List AuditLine → Reply
 auditLineBy sound s i audit =
-    let place = placeOf auditLines (s .core .audit .ring) i in
+    let place = placeOf auditLines (s .core .stores .audit .ring) i in
     giving (lineRefusal sound auditLines (length audit) (isHeld place)) (given.Audit (getD audit (slotOf place) noAudit))
 
 abbrev pub auditLineOf : State → ℕ → List AuditLine → Reply

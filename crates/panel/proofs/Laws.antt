@@ -66,7 +66,7 @@ turned-whole s lock to log e =
         ordered = c .ordered;
         latched = c .latched;
         archive-held = c .archive-held;
-        log-held = book-stays log-common (length (turnCodes (s .core .locks) lock to)) (s .core .log) (c .log-held);
+        log-held = book-stays log-common (length (turnCodes (s .core .locks) lock to)) (s .core .stores .log) (c .log-held);
         audit-held = c .audit-held;
       };
       keypad = p .keypad;
@@ -216,17 +216,17 @@ pub turned-still : (s : State) (lock : ℕ) (to : Bool) (log : List LogLine) →
     → turned s lock to log ≡ withLog (record { reply = plain 0; state = s }) log
 unfolding turned turnedCore logged numbered written
 turned-still s lock to log e h at =
-    rw (still-codes (s .core .locks) lock to at, still-by (s .core .locks) lock to (which lock h) at, no-line (s .core .log) (whole-sound s e .core .log-held))
+    rw (still-codes (s .core .locks) lock to at, still-by (s .core .locks) lock to (which lock h) at, no-line (s .core .stores .log) (whole-sound s e .core .log-held))
 
 -- ---- lines
 
 -- a line that is given is line i of those held, newest first
 pub log-line-held : (s : State) (i : ℕ) (log : List LogLine) → logLineOf s i log .number ≡ 0
-    → logLineOf s i log .given ≡ given.Log (getD (heldLines logLines noLog (s .core .log .ring) log) i noLog)
+    → logLineOf s i log .given ≡ given.Log (getD (heldLines logLines noLog (s .core .stores .log .ring) log) i noLog)
 unfolding logLineBy
-log-line-held s i log e = rw (e, line-read noLog (wholeB s) logLines (length log) (s .core .log .ring) i log e)
+log-line-held s i log e = rw (e, line-read noLog (wholeB s) logLines (length log) (s .core .stores .log .ring) i log e)
 
 pub archive-line-held : (s : State) (i : ℕ) (archive : List ArchiveLine) → archiveLineOf s i archive .number ≡ 0
-    → archiveLineOf s i archive .given ≡ given.Archive (getD (heldLines archiveLines noArchive (s .core .archive) archive) i noArchive)
+    → archiveLineOf s i archive .given ≡ given.Archive (getD (heldLines archiveLines noArchive (s .core .stores .archive) archive) i noArchive)
 unfolding archiveLineBy
-archive-line-held s i archive e = rw (e, line-read noArchive (wholeB s) archiveLines (length archive) (s .core .archive) i archive e)
+archive-line-held s i archive e = rw (e, line-read noArchive (wholeB s) archiveLines (length archive) (s .core .stores .archive) i archive e)

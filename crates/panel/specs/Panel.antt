@@ -69,9 +69,7 @@ turnedCore c lock to = record {
   latches = c .latches;
   locks = withLock (c .locks) lock to;
   settings = c .settings;
-  archive = c .archive;
-  log = advancedBook logLines (length (turnCodes (c .locks) lock to)) (c .log);
-  audit = c .audit;
+  stores = record { archive = c .stores .archive; log = advancedBook logLines (length (turnCodes (c .locks) lock to)) (c .stores .log); audit = c .stores .audit };
 }
 
 -- the time is that of the last accepted cycle
@@ -79,7 +77,7 @@ unfoldable pub turned : State → ℕ → Bool → List LogLine → Outcome
 turned s lock to log =
     withLog
     (record { reply = plain 0; state = record { core = turnedCore (s .core) lock to; keypad = s .keypad; port = s .port } })
-    (written logLines (s .core .log .ring) log (logged (s .core .log) (s .core .measured .time) (turnCodes (s .core .locks) lock to)))
+    (written logLines (s .core .stores .log .ring) log (logged (s .core .stores .log) (s .core .measured .time) (turnCodes (s .core .locks) lock to)))
 
 abbrev pub refusedTurn : ℕ → State → List LogLine → Outcome
 refusedTurn number s log = withLog (record { reply = plain number; state = s }) log
@@ -121,9 +119,7 @@ cleared s = record {
     latches = clearedLatches (s .core .latches) (s .core .measured .alarms);
     locks = s .core .locks;
     settings = s .core .settings;
-    archive = s .core .archive;
-    log = s .core .log;
-    audit = s .core .audit;
+    stores = s .core .stores;
   };
   keypad = s .keypad;
   port = s .port;
@@ -164,7 +160,7 @@ reportOf s = reportBy (wholeB s) s
 
 unfoldable pub logLineBy : Bool → State → ℕ → List LogLine → Reply
 logLineBy sound s i log =
-    let place = placeOf logLines (s .core .log .ring) i in
+    let place = placeOf logLines (s .core .stores .log .ring) i in
     giving (lineRefusal sound logLines (length log) (isHeld place)) (given.Log (getD log (slotOf place) noLog))
 
 abbrev pub logLineOf : State → ℕ → List LogLine → Reply
@@ -172,7 +168,7 @@ logLineOf s i log = logLineBy (wholeB s) s i log
 
 unfoldable pub archiveLineBy : Bool → State → ℕ → List ArchiveLine → Reply
 archiveLineBy sound s i archive =
-    let place = placeOf archiveLines (s .core .archive) i in
+    let place = placeOf archiveLines (s .core .stores .archive) i in
     giving (lineRefusal sound archiveLines (length archive) (isHeld place)) (given.Archive (getD archive (slotOf place) noArchive))
 
 abbrev pub archiveLineOf : State → ℕ → List ArchiveLine → Reply

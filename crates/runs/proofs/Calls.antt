@@ -194,14 +194,14 @@ insideOf (Call door (Write setting v)) b s = cond (noSuchSetting setting) (s, pl
 
 -- the lines of a commit, and all that is no session after it
 abbrev pub linesIn : ℕ → Body → Session → List AuditLine
-linesIn door b s = auditOf (b .core .audit) (b .core .measured .time) door (b .core .settings) (s .cells) settingCount
+linesIn door b s = auditOf (b .core .stores .audit) (b .core .measured .time) door (b .core .settings) (s .cells) settingCount
 
 abbrev pub forcedBy : ℕ → Body → Session → Body
 forcedBy door b s = record {
   core = committedCore (b .core) (s .cells) (length (linesIn door b s));
   archive = b .archive;
   log = b .log;
-  audit = written auditLines (b .core .audit .ring) (b .audit) (linesIn door b s);
+  audit = written auditLines (b .core .stores .audit .ring) (b .audit) (linesIn door b s);
 }
 
 module _ {door : ℕ} {d : Door} (a : AtDoor door d) (b : Body) (m t : Session) (w : wholeB (stateAt d (b .core) m t) ≡ true) (o : m .live ≡ true) where

@@ -39,7 +39,7 @@ after (Commit door) w = record {
   state = committed (w .state) door;
   archive = w .archive;
   log = w .log;
-  audit = written auditLines (w .state .core .audit .ring) (w .audit) (commitLines (w .state) door);
+  audit = written auditLines (w .state .core .stores .audit .ring) (w .audit) (commitLines (w .state) door);
 }
 
 -- what it gives beside its number

@@ -90,7 +90,7 @@ module _ (S : Shelf) (K : Kept S) where
 -- ---- the archive
 
 abbrev pub ArchiveTells : ℕ → Body → Type 0
-ArchiveTells n b = b .core .archive ≡ ringAfter archiveLines n
+ArchiveTells n b = b .core .stores .archive ≡ ringAfter archiveLines n
 
 no-more : {A : Type 0} (f : ℕ → A) (a : A) (n : ℕ) → a ≡ f n → a ≡ f (n + 0)
 no-more f a n e = rw add-zero e
@@ -98,13 +98,13 @@ no-more f a n e = rw add-zero e
 archive-tells : (x : Step) (w : World) (n : ℕ) → ArchiveTells n (bodyOf w) → ArchiveTells (n + length (archiveBy x w)) (bodyOf (after x w))
 unfolding cycled cycledCore turned turnedCore cleared withSession placed readAfter writeAfter committed committedCore
 archive-tells (Cycle r) w n e = rw e (ring-advances archiveLines n (length (archiveBy (Cycle r) w)) (omega arith))
-archive-tells (Turn turn) w n e = no-more (ringAfter archiveLines) (w .state .core .archive) n e
-archive-tells Clear w n e = no-more (ringAfter archiveLines) (w .state .core .archive) n e
-archive-tells (Ask question) w n e = no-more (ringAfter archiveLines) (w .state .core .archive) n e
-archive-tells (Call door act) w n e = no-more (ringAfter archiveLines) (w .state .core .archive) n e
-archive-tells (Commit door) w n e = no-more (ringAfter archiveLines) (w .state .core .archive) n e
+archive-tells (Turn turn) w n e = no-more (ringAfter archiveLines) (w .state .core .stores .archive) n e
+archive-tells Clear w n e = no-more (ringAfter archiveLines) (w .state .core .stores .archive) n e
+archive-tells (Ask question) w n e = no-more (ringAfter archiveLines) (w .state .core .stores .archive) n e
+archive-tells (Call door act) w n e = no-more (ringAfter archiveLines) (w .state .core .stores .archive) n e
+archive-tells (Commit door) w n e = no-more (ringAfter archiveLines) (w .state .core .stores .archive) n e
 
-pub archive-stores : (x : Step) (w : World) → (after x w) .archive ≡ written archiveLines (w .state .core .archive) (w .archive) (archiveBy x w)
+pub archive-stores : (x : Step) (w : World) → (after x w) .archive ≡ written archiveLines (w .state .core .stores .archive) (w .archive) (archiveBy x w)
 unfolding written cycled turned
 archive-stores (Cycle r) w = refl
 archive-stores (Turn turn) w = refl
@@ -116,7 +116,7 @@ archive-stores (Commit door) w = refl
 abbrev archiveKept : Kept archiveShelf
 archiveKept = record {
   Tells = ArchiveTells;
-  ring-of = λ b. b .core .archive;
+  ring-of = λ b. b .core .stores .archive;
   store-of = λ b. b .archive;
   ring-is = λ w. refl;
   store-is = λ w. refl;
@@ -129,25 +129,25 @@ archiveKept = record {
 -- ---- the logbook
 
 abbrev pub LogTells : ℕ → Body → Type 0
-LogTells n b = b .core .log ≡ bookAfter logLines n
+LogTells n b = b .core .stores .log ≡ bookAfter logLines n
 
 -- a command's lines advance the book by their number
-log-on : (w : World) (n time : ℕ) (codes : List ℕ) → w .state .core .log ≡ bookAfter logLines n
-    → advancedBook logLines (length codes) (w .state .core .log) ≡ bookAfter logLines (n + length (logged (w .state .core .log) time codes))
+log-on : (w : World) (n time : ℕ) (codes : List ℕ) → w .state .core .stores .log ≡ bookAfter logLines n
+    → advancedBook logLines (length codes) (w .state .core .stores .log) ≡ bookAfter logLines (n + length (logged (w .state .core .stores .log) time codes))
 unfolding logged
 log-on w n time codes e =
-    rw (numbered-length (w .state .core .log .number) time codes, e) (book-advances logLines n (length codes) (omega arith))
+    rw (numbered-length (w .state .core .stores .log .number) time codes, e) (book-advances logLines n (length codes) (omega arith))
 
 pub log-tells : (x : Step) (w : World) (n : ℕ) → LogTells n (bodyOf w) → LogTells (n + length (logBy x w)) (bodyOf (after x w))
 unfolding cycled cycledCore turned turnedCore cleared withSession placed readAfter writeAfter committed committedCore
 log-tells (Cycle r) w n e = log-on w n (r .time) (changes (w .state .core .measured .alarms) (alarmsFor (w .state .core .settings) r)) e
 log-tells (Turn turn) w n e = log-on w n (w .state .core .measured .time) (turnCodes (w .state .core .locks) (lockOf turn) (opensIt turn)) e
-log-tells Clear w n e = no-more (bookAfter logLines) (w .state .core .log) n e
-log-tells (Ask question) w n e = no-more (bookAfter logLines) (w .state .core .log) n e
-log-tells (Call door act) w n e = no-more (bookAfter logLines) (w .state .core .log) n e
-log-tells (Commit door) w n e = no-more (bookAfter logLines) (w .state .core .log) n e
+log-tells Clear w n e = no-more (bookAfter logLines) (w .state .core .stores .log) n e
+log-tells (Ask question) w n e = no-more (bookAfter logLines) (w .state .core .stores .log) n e
+log-tells (Call door act) w n e = no-more (bookAfter logLines) (w .state .core .stores .log) n e
+log-tells (Commit door) w n e = no-more (bookAfter logLines) (w .state .core .stores .log) n e
 
-pub log-stores : (x : Step) (w : World) → (after x w) .log ≡ written logLines (w .state .core .log .ring) (w .log) (logBy x w)
+pub log-stores : (x : Step) (w : World) → (after x w) .log ≡ written logLines (w .state .core .stores .log .ring) (w .log) (logBy x w)
 unfolding written cycled turned
 log-stores (Cycle r) w = refl
 log-stores (Turn turn) w = refl
@@ -164,12 +164,12 @@ book-ring size n b e = ap (λ (x : Book). x .ring) e
 abbrev pub logKept : Kept logShelf
 logKept = record {
   Tells = LogTells;
-  ring-of = λ b. b .core .log .ring;
+  ring-of = λ b. b .core .stores .log .ring;
   store-of = λ b. b .log;
   ring-is = λ w. refl;
   store-is = λ w. refl;
   some-line = omega arith;
-  told-ring = λ n b e. book-ring logLines n (b .core .log) e;
+  told-ring = λ n b e. book-ring logLines n (b .core .stores .log) e;
   tells-on = log-tells;
   stores-on = log-stores;
 }
@@ -177,20 +177,20 @@ logKept = record {
 -- ---- the audit trail
 
 abbrev pub AuditTells : ℕ → Body → Type 0
-AuditTells n b = b .core .audit ≡ bookAfter auditLines n
+AuditTells n b = b .core .stores .audit ≡ bookAfter auditLines n
 
 pub audit-tells : (x : Step) (w : World) (n : ℕ) → AuditTells n (bodyOf w) → AuditTells (n + length (auditBy x w)) (bodyOf (after x w))
 unfolding cycled cycledCore turned turnedCore cleared withSession placed readAfter writeAfter committed committedCore
-audit-tells (Cycle r) w n e = no-more (bookAfter auditLines) (w .state .core .audit) n e
-audit-tells (Turn turn) w n e = no-more (bookAfter auditLines) (w .state .core .audit) n e
-audit-tells Clear w n e = no-more (bookAfter auditLines) (w .state .core .audit) n e
-audit-tells (Ask question) w n e = no-more (bookAfter auditLines) (w .state .core .audit) n e
-audit-tells (Call door act) w n e = no-more (bookAfter auditLines) (w .state .core .audit) n e
+audit-tells (Cycle r) w n e = no-more (bookAfter auditLines) (w .state .core .stores .audit) n e
+audit-tells (Turn turn) w n e = no-more (bookAfter auditLines) (w .state .core .stores .audit) n e
+audit-tells Clear w n e = no-more (bookAfter auditLines) (w .state .core .stores .audit) n e
+audit-tells (Ask question) w n e = no-more (bookAfter auditLines) (w .state .core .stores .audit) n e
+audit-tells (Call door act) w n e = no-more (bookAfter auditLines) (w .state .core .stores .audit) n e
 audit-tells (Commit door) w n e =
     let k = length (auditBy (Commit door) w) in
     ap (advancedBook auditLines k) e ∙ book-advances auditLines n k (omega arith)
 
-pub audit-stores : (x : Step) (w : World) → (after x w) .audit ≡ written auditLines (w .state .core .audit .ring) (w .audit) (auditBy x w)
+pub audit-stores : (x : Step) (w : World) → (after x w) .audit ≡ written auditLines (w .state .core .stores .audit .ring) (w .audit) (auditBy x w)
 unfolding written cycled turned
 audit-stores (Cycle r) w = refl
 audit-stores (Turn turn) w = refl
@@ -202,12 +202,12 @@ audit-stores (Commit door) w = refl
 abbrev pub auditKept : Kept auditShelf
 auditKept = record {
   Tells = AuditTells;
-  ring-of = λ b. b .core .audit .ring;
+  ring-of = λ b. b .core .stores .audit .ring;
   store-of = λ b. b .audit;
   ring-is = λ w. refl;
   store-is = λ w. refl;
   some-line = omega arith;
-  told-ring = λ n b e. book-ring auditLines n (b .core .audit) e;
+  told-ring = λ n b e. book-ring auditLines n (b .core .stores .audit) e;
   tells-on = audit-tells;
   stores-on = audit-stores;
 }
@@ -218,9 +218,9 @@ module _ (time supcode custcode : ℕ) (archive : List ArchiveLine) (log : List 
   abbrev begun : World
   begun = started time supcode custcode archive log audit
 
-  fresh-tells : (t : Bool) → (cond t (fresh time supcode custcode) (fresh 0 0 0) .core .archive ≡ ringAfter archiveLines 0)
-      × (cond t (fresh time supcode custcode) (fresh 0 0 0) .core .log ≡ bookAfter logLines 0)
-      × (cond t (fresh time supcode custcode) (fresh 0 0 0) .core .audit ≡ bookAfter auditLines 0)
+  fresh-tells : (t : Bool) → (cond t (fresh time supcode custcode) (fresh 0 0 0) .core .stores .archive ≡ ringAfter archiveLines 0)
+      × (cond t (fresh time supcode custcode) (fresh 0 0 0) .core .stores .log ≡ bookAfter logLines 0)
+      × (cond t (fresh time supcode custcode) (fresh 0 0 0) .core .stores .audit ≡ bookAfter auditLines 0)
   unfolding fresh freshCore
   fresh-tells true = (refl, refl, refl)
   fresh-tells false = (refl, refl, refl)

@@ -86,12 +86,12 @@ line-numbers n time [] = refl
 line-numbers n time (c ∷ cs) = ap (λ l. n % numbers ∷ l) (line-numbers (n + 1) time cs)
 
 logged-numbers : (w : World) (n time : ℕ) (cs : List ℕ) → LogTells n (bodyOf w)
-    → map (λ (l : LogLine). l .number) (logged (w .state .core .log) time cs) ≡ numbersFrom n (length (logged (w .state .core .log) time cs))
+    → map (λ (l : LogLine). l .number) (logged (w .state .core .stores .log) time cs) ≡ numbersFrom n (length (logged (w .state .core .stores .log) time cs))
 unfolding logged
 logged-numbers w n time cs e =
-    line-numbers (w .state .core .log .number) time cs
-    ∙ book-numbers logLines n (length cs) (w .state .core .log) e
-    ∙ ap (numbersFrom n) (sym (numbered-length (w .state .core .log .number) time cs))
+    line-numbers (w .state .core .stores .log .number) time cs
+    ∙ book-numbers logLines n (length cs) (w .state .core .stores .log) e
+    ∙ ap (numbersFrom n) (sym (numbered-length (w .state .core .stores .log .number) time cs))
 
 log-numbers-on : (x : Step) (w : World) (n : ℕ) → LogTells n (bodyOf w) → map (λ (l : LogLine). l .number) (logBy x w) ≡ numbersFrom n (length (logBy x w))
 log-numbers-on (Cycle r) w n e = logged-numbers w n (r .time) (changes (w .state .core .measured .alarms) (alarmsFor (w .state .core .settings) r)) e
@@ -127,8 +127,8 @@ audit-numbers-on Clear w n e = refl
 audit-numbers-on (Ask question) w n e = refl
 audit-numbers-on (Call door act) w n e = refl
 audit-numbers-on (Commit door) w n e =
-    audit-numbers-of (w .state .core .audit) (w .state .core .measured .time) door (w .state .core .settings) (sessionAt (w .state) door .cells) settingCount
-    ∙ book-numbers auditLines n (length (auditBy (Commit door) w)) (w .state .core .audit) e
+    audit-numbers-of (w .state .core .stores .audit) (w .state .core .measured .time) door (w .state .core .settings) (sessionAt (w .state) door .cells) settingCount
+    ∙ book-numbers auditLines n (length (auditBy (Commit door) w)) (w .state .core .stores .audit) e
 
 -- ---- from a start
 

@@ -283,7 +283,7 @@ module _ (n : ℕ) where
   force-good (commits {door = door} {d = d} a) b s g f q =
       record {
         sound = forced-sound a b s noSession (whole-at d b (some s) none (g .sound) f tt) (f .live) (commit-zero (firstOf (commitRows b s)) q);
-        sized = written-length auditLines (b .core .audit .ring) (b .audit) (linesIn door b s) ∙ g .sized;
+        sized = written-length auditLines (b .core .stores .audit .ring) (b .audit) (linesIn door b s) ∙ g .sized;
       }
   force-good (abandons a) b s g f q = absurd (not-dropped refl q)
 

@@ -37,7 +37,7 @@ archiveShelf = record {
   Line = ArchiveLine;
   blank = noArchive;
   size = archiveLines;
-  ring = λ w. w .state .core .archive;
+  ring = λ w. w .state .core .stores .archive;
   store = λ w. w .archive;
   writes = archiveBy;
 }
@@ -45,8 +45,8 @@ archiveShelf = record {
 -- ---- the logbook: the alarms that came or went, at the cycle's own time; a lock that opened or shut, at the time of the last cycle
 
 abbrev pub logBy : Step → World → List LogLine
-logBy (Cycle r) w = logged (w .state .core .log) (r .time) (changes (w .state .core .measured .alarms) (alarmsFor (w .state .core .settings) r))
-logBy (Turn turn) w = logged (w .state .core .log) (w .state .core .measured .time) (turnCodes (w .state .core .locks) (lockOf turn) (opensIt turn))
+logBy (Cycle r) w = logged (w .state .core .stores .log) (r .time) (changes (w .state .core .measured .alarms) (alarmsFor (w .state .core .settings) r))
+logBy (Turn turn) w = logged (w .state .core .stores .log) (w .state .core .measured .time) (turnCodes (w .state .core .locks) (lockOf turn) (opensIt turn))
 logBy Clear w = []
 logBy (Ask question) w = []
 logBy (Call door act) w = []
@@ -57,7 +57,7 @@ logShelf = record {
   Line = LogLine;
   blank = noLog;
   size = logLines;
-  ring = λ w. w .state .core .log .ring;
+  ring = λ w. w .state .core .stores .log .ring;
   store = λ w. w .log;
   writes = logBy;
 }
@@ -77,7 +77,7 @@ auditShelf = record {
   Line = AuditLine;
   blank = noAudit;
   size = auditLines;
-  ring = λ w. w .state .core .audit .ring;
+  ring = λ w. w .state .core .stores .audit .ring;
   store = λ w. w .audit;
   writes = auditBy;
 }

@@ -47,10 +47,10 @@ askedLine size lines r i v = record { lent = eqb lines size; rows = (13, not (is
 abbrev pub asking : Question → Body → Asked
 asking question.Report b = record { lent = true; rows = []; gives = given.Report (reported (b .core)) }
 asking (question.Archive i) b =
-    askedLine archiveLines (length (b .archive)) (b .core .archive) i (given.Archive (getD (b .archive) (slotOf (placeOf archiveLines (b .core .archive) i)) noArchive))
-asking (question.Log i) b = askedLine logLines (length (b .log)) (b .core .log .ring) i (given.Log (getD (b .log) (slotOf (placeOf logLines (b .core .log .ring) i)) noLog))
+    askedLine archiveLines (length (b .archive)) (b .core .stores .archive) i (given.Archive (getD (b .archive) (slotOf (placeOf archiveLines (b .core .stores .archive) i)) noArchive))
+asking (question.Log i) b = askedLine logLines (length (b .log)) (b .core .stores .log .ring) i (given.Log (getD (b .log) (slotOf (placeOf logLines (b .core .stores .log .ring) i)) noLog))
 asking (question.Audit i) b =
-    askedLine auditLines (length (b .audit)) (b .core .audit .ring) i (given.Audit (getD (b .audit) (slotOf (placeOf auditLines (b .core .audit .ring) i)) noAudit))
+    askedLine auditLines (length (b .audit)) (b .core .stores .audit .ring) i (given.Audit (getD (b .audit) (slotOf (placeOf auditLines (b .core .stores .audit .ring) i)) noAudit))
 
 -- ---- the rest
 

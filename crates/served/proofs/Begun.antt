@@ -25,9 +25,9 @@ use Rattle.served.specs.Served.{Run, endOf, Part, parts, firstRun, next,
 
 step-sized : (x : Command) (w : World) → Sized w → Sized ((step x w) .0)
 step-sized x w s = record {
-  archive = leaves (λ (b : Body). length (b .archive)) x w (ap length (archive-stores x w) ∙ written-length archiveLines (w .state .core .archive) (w .archive) (archiveBy x w)) ∙ s .archive;
-  log = leaves (λ (b : Body). length (b .log)) x w (ap length (log-stores x w) ∙ written-length logLines (w .state .core .log .ring) (w .log) (logBy x w)) ∙ s .log;
-  audit = leaves (λ (b : Body). length (b .audit)) x w (ap length (audit-stores x w) ∙ written-length auditLines (w .state .core .audit .ring) (w .audit) (auditBy x w)) ∙ s .audit;
+  archive = leaves (λ (b : Body). length (b .archive)) x w (ap length (archive-stores x w) ∙ written-length archiveLines (w .state .core .stores .archive) (w .archive) (archiveBy x w)) ∙ s .archive;
+  log = leaves (λ (b : Body). length (b .log)) x w (ap length (log-stores x w) ∙ written-length logLines (w .state .core .stores .log .ring) (w .log) (logBy x w)) ∙ s .log;
+  audit = leaves (λ (b : Body). length (b .audit)) x w (ap length (audit-stores x w) ∙ written-length auditLines (w .state .core .stores .audit .ring) (w .audit) (auditBy x w)) ∙ s .audit;
 }
 
 run-sized : (xs : List Command) (w : World) → Sized w → Sized ((run corrector xs w) .1)

@@ -31,9 +31,9 @@ pub record SoundCore (c : Core) : Type 0 where
   pub fit : settingsFitB (c .settings) ≡ true
   pub ordered : orderedB (c .settings) ≡ true
   pub latched : latchedB (c .measured .alarms) (c .latches) ≡ true
-  pub archive-held : ringB archiveLines (c .archive) ≡ true
-  pub log-held : bookB logLines logStep (c .log) ≡ true
-  pub audit-held : bookB auditLines auditStep (c .audit) ≡ true
+  pub archive-held : ringB archiveLines (c .stores .archive) ≡ true
+  pub log-held : bookB logLines logStep (c .stores .log) ≡ true
+  pub audit-held : bookB auditLines auditStep (c .stores .audit) ≡ true
 
 -- what is said of what was measured, clause by clause
 pub measured-sound : (m : Measured) → measuredB m ≡ true → SoundMeasured m
@@ -52,9 +52,9 @@ core-sound c e =
     let f : Bool = settingsFitB (c .settings) in
     let o : Bool = orderedB (c .settings) in
     let l : Bool = latchedB (c .measured .alarms) (c .latches) in
-    let x : Bool = ringB archiveLines (c .archive) in
-    let y : Bool = bookB logLines logStep (c .log) in
-    let z : Bool = bookB auditLines auditStep (c .audit) in
+    let x : Bool = ringB archiveLines (c .stores .archive) in
+    let y : Bool = bookB logLines logStep (c .stores .log) in
+    let z : Bool = bookB auditLines auditStep (c .stores .audit) in
     let e4 : (d && f && o && l) ≡ true = and-left (d && f && o && l) (x && y && z) e in
     let e3 : (d && f && o) ≡ true = and-left (d && f && o) l e4 in
     let e2 : (d && f) ≡ true = and-left (d && f) o e3 in

@@ -11,8 +11,6 @@ use Rattle.units.specs.Units.{litresRollover, baseRollover}
 use Rattle.settings.specs.Settings.{settingCount, fitsB, settingsFitB, orderedB, factorySettings}
 use Rattle.settings.specs.declared.Value.the-variants.{Whole}
 use Rattle.calendar.specs.Calendar.{endOfTime, monthOf}
-use Rattle.ring.specs.declared.Ring.{Ring}
-use Rattle.ring.specs.declared.Book.{Book}
 use Rattle.ring.specs.Ring.{archiveLines, logLines, auditLines, logStep, auditStep, ringAfter, bookAfter, ringB, bookB}
 use Rattle.state.specs.declared.Counters.{Counters}
 use Rattle.state.specs.declared.Alarms.{Alarms}
@@ -20,6 +18,7 @@ use Rattle.state.specs.declared.Locks.{Locks}
 use Rattle.state.specs.declared.Cell.{Cell}
 use Rattle.state.specs.declared.Session.{Session}
 use Rattle.state.specs.declared.Measured.{Measured}
+use Rattle.state.specs.declared.Stores.{Stores}
 use Rattle.state.specs.declared.Core.{Core}
 use Rattle.state.specs.declared.State.{State}
 
@@ -48,9 +47,7 @@ freshCore time locks = record {
   latches = noAlarm;
   locks = locks;
   settings = factorySettings;
-  archive = ringAfter archiveLines 0;
-  log = bookAfter logLines 0;
-  audit = bookAfter auditLines 0;
+  stores = record { archive = ringAfter archiveLines 0; log = bookAfter logLines 0; audit = bookAfter auditLines 0 };
 }
 
 -- the locks are shut when fresh, and no session stands
@@ -69,8 +66,8 @@ latchedB present latch = (not (present .p) || latch .p) && (not (present .t) || 
 
 -- what the state says of each store is what some number of lines written to it from fresh would give (the law that it is
 -- stands with the rings)
-unfoldable pub storesB : Ring → Book → Book → Bool
-storesB archive log audit = ringB archiveLines archive && bookB logLines logStep log && bookB auditLines auditStep audit
+unfoldable pub storesB : Stores → Bool
+storesB x = ringB archiveLines (x .archive) && bookB logLines logStep (x .log) && bookB auditLines auditStep (x .audit)
 
 -- of setting k + 1 in a session: a staged value is in range; one marked as put in force through the other door also counts as read; a door
 -- with no session has nothing staged or read
@@ -91,7 +88,7 @@ measuredB m = ltb (m .time) endOfTime && countersB (m .counters) && eqb (m .mont
 unfoldable pub coreB : Core → Bool
 coreB c =
     measuredB (c .measured) && settingsFitB (c .settings) && orderedB (c .settings) && latchedB (c .measured .alarms) (c .latches)
-    && storesB (c .archive) (c .log) (c .audit)
+    && storesB (c .stores)
 
 unfoldable pub wholeB : State → Bool
 wholeB s = coreB (s .core) && sessionB (s .keypad) && sessionB (s .port)

@@ -55,15 +55,20 @@ pub struct Measured {
     pub alarms: Alarms,
 }
 
+// What is kept of the three stores.
+pub struct Stores {
+    pub archive: ring::Ring,
+    pub log: ring::Book,
+    pub audit: ring::Book,
+}
+
 // All that is no session.
 pub struct Core {
     pub measured: Measured,
     pub latches: Alarms,
     pub locks: Locks,
     pub settings: [settings::Setting; settings::COUNT],
-    pub archive: ring::Ring,
-    pub log: ring::Book,
-    pub audit: ring::Book,
+    pub stores: Stores,
 }
 
 // Door 1 is the keypad, door 2 the optical port.
@@ -175,6 +180,11 @@ fn fresh_core(time: u64, locks: Locks) -> Core
         ring: empty,
         number: 0,
     };
+    let stores = Stores {
+        archive: empty,
+        log: book,
+        audit: book,
+    };
     let measured = Measured {
         time: time,
         month: month,
@@ -186,9 +196,7 @@ fn fresh_core(time: u64, locks: Locks) -> Core
         latches: none,
         locks: locks,
         settings: factory,
-        archive: empty,
-        log: book,
-        audit: book,
+        stores: stores,
     }
 }
 
@@ -235,12 +243,12 @@ fn latched_ok(present: Alarms, latch: Alarms) -> bool
     ground::both(d, c)
 }
 
-fn stores_ok(archive: ring::Ring, log: ring::Book, audit: ring::Book) -> bool
-    ensures { λ r. ⌜ r ≡ storesB archive log audit ⌝ }
+fn stores_ok(x: Stores) -> bool
+    ensures { λ r. ⌜ r ≡ storesB x ⌝ }
 {
-    let a = ring::ring_ok(ring::ARCHIVE_LINES, archive);
-    let b = ring::book_ok(ring::LOG_LINES, ring::LOG_STEP, log);
-    let c = ring::book_ok(ring::AUDIT_LINES, ring::AUDIT_STEP, audit);
+    let a = ring::ring_ok(ring::ARCHIVE_LINES, x.archive);
+    let b = ring::book_ok(ring::LOG_LINES, ring::LOG_STEP, x.log);
+    let c = ring::book_ok(ring::AUDIT_LINES, ring::AUDIT_STEP, x.audit);
     let d = ground::both(a, b);
     ground::both(d, c)
 }
@@ -318,7 +326,7 @@ fn core_ok(c: Core) -> bool
     let fit = settings::settings_fit(a);
     let ordered = settings::pairs_ordered(a);
     let latched = latched_ok(c.measured.alarms, c.latches);
-    let stores = stores_ok(c.archive, c.log, c.audit);
+    let stores = stores_ok(c.stores);
     let d = ground::both(measured, fit);
     let e = ground::both(d, ordered);
     let f = ground::both(e, latched);

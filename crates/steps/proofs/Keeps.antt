@@ -51,8 +51,8 @@ cycled-sound c r h s = record {
   fit = s .fit;
   ordered = s .ordered;
   latched = latches-hold (c .latches) (alarmsFor (c .settings) r);
-  archive-held = ring-stays archiveLines (length (monthLines (c .measured .counters) (c .measured .month) (monthOf (r .time)))) (c .archive) (omega arith) (s .archive-held);
-  log-held = book-stays log-common (length (changes (c .measured .alarms) (alarmsFor (c .settings) r))) (c .log) (s .log-held);
+  archive-held = ring-stays archiveLines (length (monthLines (c .measured .counters) (c .measured .month) (monthOf (r .time)))) (c .stores .archive) (omega arith) (s .archive-held);
+  log-held = book-stays log-common (length (changes (c .measured .alarms) (alarmsFor (c .settings) r))) (c .stores .log) (s .log-held);
   audit-held = s .audit-held;
 }
 

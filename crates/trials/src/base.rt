@@ -9,6 +9,7 @@ use state::Counters;
 use state::Locks;
 use state::Session;
 use state::State;
+use state::Stores;
 use units::BaseUnits;
 use units::Litres;
 
@@ -60,14 +61,17 @@ fn core() -> Core {
     measured.month = MONTH;
     measured.counters = counters(999_999_999_999, 5_000, 99_999_999_999_999_999, 700);
     measured.alarms = alarms(true, false, false);
+    let stores = Stores {
+        archive: Ring { held: 15, next: 3 },
+        log: book(250, 7, 257),
+        audit: book(12, 12, 12),
+    };
     Core {
         measured: measured,
         latches: alarms(true, true, false),
         locks: locks(true, false, false),
         settings: factory,
-        archive: Ring { held: 15, next: 3 },
-        log: book(250, 7, 257),
-        audit: book(12, 12, 12),
+        stores: stores,
     }
 }
 

@@ -50,19 +50,25 @@ pub fn locks(s: State, locks: Locks) -> State {
 
 pub fn archive(s: State, r: Ring) -> State {
     let mut core = s.core;
-    core.archive = r;
+    let mut stores = core.stores;
+    stores.archive = r;
+    core.stores = stores;
     state::with_core(s, core)
 }
 
 pub fn log(s: State, b: Book) -> State {
     let mut core = s.core;
-    core.log = b;
+    let mut stores = core.stores;
+    stores.log = b;
+    core.stores = stores;
     state::with_core(s, core)
 }
 
 pub fn audit(s: State, b: Book) -> State {
     let mut core = s.core;
-    core.audit = b;
+    let mut stores = core.stores;
+    stores.audit = b;
+    core.stores = stores;
     state::with_core(s, core)
 }
 

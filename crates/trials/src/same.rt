@@ -10,6 +10,7 @@ use state::Locks;
 use state::Measured;
 use state::Session;
 use state::State;
+use state::Stores;
 
 fn floats(x: f64, y: f64) -> bool {
     let first = x == x;
@@ -113,7 +114,7 @@ fn books(a: ring::Book, b: ring::Book) -> bool {
     both(rings(a.ring, b.ring), number)
 }
 
-fn stores(a: Core, b: Core) -> bool {
+fn stores(a: Stores, b: Stores) -> bool {
     let archive = rings(a.archive, b.archive);
     let log = books(a.log, b.log);
     let audit = books(a.audit, b.audit);
@@ -135,7 +136,7 @@ fn cores(a: Core, b: Core) -> bool {
     let x = a.settings;
     let y = b.settings;
     let set = settings_all(x, y);
-    let kept = stores(a, b);
+    let kept = stores(a.stores, b.stores);
     let second = both(both(latched, turned), both(set, kept));
     both(first, second)
 }
