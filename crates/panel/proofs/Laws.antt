@@ -66,7 +66,7 @@ turned-whole s lock to log e =
         ordered = c .ordered;
         latched = c .latched;
         archive-held = c .archive-held;
-        log-held = book-stays log-common (length (turnCodes (s .core .locks) lock to)) (s .core .stores .log) (c .log-held);
+        log-held = book-stays log-common (length (turnCodes (lockIn (s .core .locks) lock) lock to)) (s .core .stores .log) (c .log-held);
         audit-held = c .audit-held;
       };
       keypad = p .keypad;
@@ -201,10 +201,10 @@ still-by l lock to (one e) h = rw (e, sym (rw e at h))
 still-by l lock to (two e) h = rw (e, sym (rw e at h))
 still-by l lock to (three e) h = rw (e, sym (rw e at h))
 
-still-codes : (l : Locks) (lock : ℕ) (to : Bool) → lockIn l lock ≡ to → turnCodes l lock to ≡ []
+still-codes : (lock : ℕ) (to : Bool) → turnCodes to lock to ≡ []
 unfolding turnCodes
-still-codes l lock true h = rw h
-still-codes l lock false h = rw h
+still-codes lock true = refl
+still-codes lock false = refl
 
 no-line : (b : Book) → bookB logLines logStep b ≡ true → advancedBook logLines 0 b ≡ b
 no-line b e =
@@ -216,7 +216,7 @@ pub turned-still : (s : State) (lock : ℕ) (to : Bool) (log : List LogLine) →
     → turned s lock to log ≡ withLog (record { reply = plain 0; state = s }) log
 unfolding turned turnedCore logged numbered written
 turned-still s lock to log e h at =
-    rw (still-codes (s .core .locks) lock to at, still-by (s .core .locks) lock to (which lock h) at, no-line (s .core .stores .log) (whole-sound s e .core .log-held))
+    rw (at, still-codes lock to, still-by (s .core .locks) lock to (which lock h) at, no-line (s .core .stores .log) (whole-sound s e .core .log-held))
 
 -- ---- lines
 

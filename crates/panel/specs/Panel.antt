@@ -58,10 +58,10 @@ withLock l lock to = record {
 unfoldable pub rightCode : Locks → ℕ → ℕ → Bool
 rightCode l lock code = cond (eqb lock 1) true (cond (eqb lock 2) (eqb code (l .supcode)) (eqb code (l .custcode)))
 
--- 31 to 33 lock 1 to 3 opened, 41 to 43 shut; turning a lock to where it already stands is not logged
-unfoldable pub turnCodes : Locks → ℕ → Bool → List ℕ
-turnCodes l lock true = keep (not (lockIn l lock)) (30 + lock)
-turnCodes l lock false = keep (lockIn l lock) (40 + lock)
+-- 31 to 33: lock 1 to 3 opened; 41 to 43: shut. Turning a lock to where it already stands is not logged. `stood`: it was open before
+unfoldable pub turnCodes : Bool → ℕ → Bool → List ℕ
+turnCodes stood lock true = keep (not stood) (30 + lock)
+turnCodes stood lock false = keep stood (40 + lock)
 
 unfoldable pub turnedCore : Core → ℕ → Bool → Core
 turnedCore c lock to = record {
@@ -69,7 +69,7 @@ turnedCore c lock to = record {
   latches = c .latches;
   locks = withLock (c .locks) lock to;
   settings = c .settings;
-  stores = record { archive = c .stores .archive; log = advancedBook logLines (length (turnCodes (c .locks) lock to)) (c .stores .log); audit = c .stores .audit };
+  stores = record { archive = c .stores .archive; log = advancedBook logLines (length (turnCodes (lockIn (c .locks) lock) lock to)) (c .stores .log); audit = c .stores .audit };
 }
 
 -- the time is that of the last accepted cycle
@@ -77,7 +77,7 @@ unfoldable pub turned : State → ℕ → Bool → List LogLine → Outcome
 turned s lock to log =
     withLog
     (record { reply = plain 0; state = record { core = turnedCore (s .core) lock to; keypad = s .keypad; port = s .port } })
-    (written logLines (s .core .stores .log .ring) log (logged (s .core .stores .log) (s .core .measured .time) (turnCodes (s .core .locks) lock to)))
+    (written logLines (s .core .stores .log .ring) log (logged (s .core .stores .log) (s .core .measured .time) (turnCodes (lockIn (s .core .locks) lock) lock to)))
 
 abbrev pub refusedTurn : ℕ → State → List LogLine → Outcome
 refusedTurn number s log = withLog (record { reply = plain number; state = s }) log

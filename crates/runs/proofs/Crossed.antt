@@ -7,28 +7,36 @@ use mathlib.Core.List.{List, [], _∷_, _++_, map, map-map}
 use Prim.Native.Nat.{ℕ, zero, suc, _+_, _-_, _≤_}
 use native.Mathlib.Nat.{add-zero, zero-add, le-refl}
 use native.Mathlib.Omega.{arith}
-use lib.Dec.{eqb}
+use lib.Dec.{leb, eqb}
 use lib.ListN.{length}
 use borrow.Author.Tests.{eqb-true, ltb-false}
 use Rattle.order.specs.Order.{run}
-use Rattle.calendar.specs.Calendar.{monthOf}
+use Rattle.calendar.specs.Calendar.{endOfTime, monthOf}
 use Rattle.calendar.proofs.Months.{month-mono}
 use Rattle.state.specs.Card.{firstOf}
 use Rattle.state.specs.State.{wholeB}
 use Rattle.state.proofs.Sound.{measured-sound, whole-sound}
 use Rattle.books.specs.declared.ArchiveLine.{ArchiveLine}
+use Rattle.books.specs.declared.LogLine.{LogLine}
+use Rattle.books.specs.declared.AuditLine.{AuditLine}
 use Rattle.state.specs.declared.Counters.{Counters}
 use Rattle.commands.specs.declared.Brought.{Brought}
 use Rattle.cycle.specs.Cycle.{monthsFrom, monthsCrossed, archiveLine, monthLines, cycleRefusal, cycledCore, cycled}
 use Rattle.cycle.proofs.Join.{accepted}
 use Rattle.panel.specs.Panel.{turnedCore, turned, cleared}
 use Rattle.doors.specs.Doors.{placed, withSession, readAfter, writeAfter, committedCore, committed}
-use Rattle.runs.specs.Run.{Step, Cycle, Turn, Clear, Ask, Call, Commit, World, numberOf, step, corrector, Body, bodyOf}
+use Rattle.runs.specs.Run.{Step, Cycle, Turn, Clear, Ask, Call, Commit, World, numberOf, step, corrector, started, Body, bodyOf}
 use Rattle.runs.specs.Run as Run
 use Rattle.runs.specs.Rows.{rowsOf, refusedBy}
-use Rattle.runs.specs.Lines.{archiveBy, archiveShelf, wrote}
+use Rattle.runs.specs.History.{History, history, lastTime, startTime}
+use Rattle.runs.specs.Locks.{startCode}
+use Rattle.runs.specs.Lines.{archiveShelf, wroteIn}
 use Rattle.runs.proofs.Effects.{after, number-is, world-is, refused-body}
 use Rattle.runs.proofs.Numbers.{map-join}
+use Rattle.runs.proofs.InForce.{Agreed}
+use Rattle.runs.proofs.Told.{Told, told, month-told, counters-told, from-start-told}
+use Rattle.runs.proofs.Lines.{archiveBy, archive-told}
+use Rattle.runs.proofs.Times.{start-month}
 
 abbrev monthIn : Body → ℕ
 monthIn b = b .core .measured .month
@@ -99,7 +107,12 @@ crosses x w = let k = firstOf (rowsOf x w) in rw (number-is x w, world-is x w) (
 
 -- ---- a run
 
-run-crosses : (xs : List Step) (w : World) → Crossed (wrote archiveShelf xs w) (w .state .core .measured .month) ((run corrector xs w) .1 .state .core .measured .month)
+-- the archive lines that a run writes, oldest first, by the states that it comes through
+abbrev pub archivedBy : List Step → World → List ArchiveLine
+archivedBy [] w = []
+archivedBy (x ∷ xs) w = cond (eqb (numberOf ((step x w) .1)) 0) (archiveBy x w) [] ++ archivedBy xs ((step x w) .0)
+
+run-crosses : (xs : List Step) (w : World) → Crossed (archivedBy xs w) (w .state .core .measured .month) ((run corrector xs w) .1 .state .core .measured .month)
 run-crosses [] w = stays (w .state .core .measured .month)
 run-crosses (x ∷ xs) w =
     let one = crosses x w in
@@ -107,11 +120,42 @@ run-crosses (x ∷ xs) w =
     record {
       up = omega (arith, one .up, rest .up);
       months =
-          map-join (λ (l : ArchiveLine). l .month) (cond (eqb (numberOf ((step x w) .1)) 0) (archiveBy x w) []) (wrote archiveShelf xs ((step x w) .0))
+          map-join (λ (l : ArchiveLine). l .month) (cond (eqb (numberOf ((step x w) .1)) 0) (archiveBy x w) []) (archivedBy xs ((step x w) .0))
           ∙ rw (one .months, rest .months) (crossed-join (w .state .core .measured .month) ((step x w) .0 .state .core .measured .month) ((run corrector xs ((step x w) .0)) .1 .state .core .measured .month) (one .up) (rest .up));
     }
 
 -- THE MONTHS CROSSED, one line each, in their order: from any world
 pub months-crossed : (xs : List Step) (w : World)
-    → map (λ (l : ArchiveLine). l .month) (wrote archiveShelf xs w) ≡ monthsCrossed (w .state .core .measured .month) ((run corrector xs w) .1 .state .core .measured .month)
+    → map (λ (l : ArchiveLine). l .month) (archivedBy xs w) ≡ monthsCrossed (w .state .core .measured .month) ((run corrector xs w) .1 .state .core .measured .month)
 months-crossed xs w = run-crosses xs w .months
+
+-- ---- a run from a start
+
+module _ (xs : List Step) (time supcode custcode : ℕ) (archive : List ArchiveLine) (log : List LogLine) (audit : List AuditLine) where
+  abbrev start : World
+  start = started time supcode custcode archive log audit
+
+  abbrev t : ℕ
+  t = startTime time
+
+  months-kept : (x : Step) (w : World) (past : History) → Agreed w past → Told t (startCode time supcode) (startCode time custcode) w past
+      → Crossed (wroteIn archiveShelf t past) (monthOf t) (w .state .core .measured .month)
+      → Crossed (wroteIn archiveShelf t ((x, (step x w) .1) ∷ past)) (monthOf t) ((step x w) .0 .state .core .measured .month)
+  months-kept x w past h s c =
+      let one = crosses x w in
+      let lines = wroteIn archiveShelf t past in
+      let more = cond (eqb (numberOf ((step x w) .1)) 0) (archiveBy x w) [] in
+      rw (← archive-told t _ _ (length lines) x w past s) (record {
+        up = omega (arith, c .up, one .up);
+        months =
+            map-join (λ (l : ArchiveLine). l .month) lines more
+            ∙ rw (c .months, one .months) (crossed-join (monthOf t) (w .state .core .measured .month) ((step x w) .0 .state .core .measured .month) (c .up) (one .up));
+      })
+
+  -- THE ARCHIVE'S MONTHS are those from the month of the start up to, but not including, the month of the last accepted cycle
+  pub archived-months : map (λ (l : ArchiveLine). l .month) (wroteIn archiveShelf t (history xs start)) ≡ monthsCrossed (monthOf t) (monthOf (lastTime t (history xs start)))
+  archived-months =
+      let end = told time supcode custcode archive log audit xs in
+      (from-start-told time supcode custcode archive log audit (λ w past. Crossed (wroteIn archiveShelf t past) (monthOf t) (w .state .core .measured .month)) months-kept
+      (rw (start-month time supcode custcode (leb endOfTime time) refl) (stays (monthOf t))) xs .months)
+      ∙ ap (monthsCrossed (monthOf t)) (month-told _ _ _ _ _ end)

@@ -17,16 +17,22 @@ use Rattle.state.specs.Card.{firstOf}
 use Rattle.cycle.specs.Cycle.{alarmsFor, latchesAfter, cycledCore, cycled}
 use Rattle.panel.specs.Panel.{turnedCore, turned, clearedLatches, cleared, startOf, startRefusal}
 use Rattle.doors.specs.Doors.{placed, withSession, readAfter, writeAfter, committedCore, committed}
-use Rattle.runs.specs.Run.{Step, Cycle, Turn, Clear, Ask, Call, Commit, World, step, corrector, started, Body, bodyOf}
-use Rattle.runs.specs.Sums.{accepted}
+use Rattle.runs.specs.Run.{Step, Cycle, Turn, Clear, Ask, Call, Commit, onCycle, World, numberOf, step, corrector, started, Body, bodyOf}
+use Rattle.runs.specs.History.{History, history}
+use Rattle.runs.specs.InForce.{settingsIn}
 use Rattle.runs.specs.Rows.{rowsOf, refusedBy}
-use Rattle.runs.specs.Latches.{Alarm, p, t, k, flagOf, latch, foundBy, lastFound, findsPresent, clearsAbsent, clearedIn, latchedIn}
+use Rattle.runs.specs.Latches.{Alarm, p, t, k, flagOf, latch, foundIn, latchAfter, latchIn, accepted, findsPresent, clearsAbsent, clearedIn}
 use Rattle.runs.proofs.Effects.{after, part-by, number-is, world-is, refused-body}
+use Rattle.runs.proofs.InForce.{Agreed, KeptByStep, all-forced, from-start}
 
 -- ---- present
 
 abbrev alarmsIn : Body → Alarms
 alarmsIn b = b .core .measured .alarms
+
+-- what an accepted step finds, by the settings in force in the world; f was found before it
+abbrev foundBy : Step → World → Alarms → Alarms
+foundBy x w f = onCycle (λ r. alarmsFor (w .state .core .settings) r) f x
 
 accepted-found : (x : Step) (w : World) → alarmsIn (bodyOf (after x w)) ≡ foundBy x w (w .state .core .measured .alarms)
 unfolding cycledCore
@@ -39,14 +45,18 @@ found-by x w n false = ap alarmsIn (refused-body x w n)
 step-found : (x : Step) (w : World) → (step x w) .0 .state .core .measured .alarms ≡ cond (accepted x w) (foundBy x w (w .state .core .measured .alarms)) (w .state .core .measured .alarms)
 step-found x w = let n = firstOf (rowsOf x w) in rw (number-is x w, world-is x w) (found-by x w n (eqb n 0))
 
-run-found : (xs : List Step) (w : World) (f : Alarms) → w .state .core .measured .alarms ≡ f → (run corrector xs w) .1 .state .core .measured .alarms ≡ lastFound xs w f
-run-found [] w f e = e
-run-found (x ∷ xs) w f e = run-found xs ((step x w) .0) (cond (accepted x w) (foundBy x w f) f) (step-found x w ∙ rw e)
+-- the settings in the world are those of the history, and so is what a step finds
+found-told : (x : Step) (w : World) (past : History) (d : Bool) → w .state .core .settings ≡ settingsIn past → w .state .core .measured .alarms ≡ foundIn past
+    → cond d (foundBy x w (w .state .core .measured .alarms)) (w .state .core .measured .alarms) ≡ cond d (onCycle (λ r. alarmsFor (settingsIn past) r) (foundIn past) x) (foundIn past)
+found-told x w past d e f = rw (e, f)
+
+pub found-kept : KeptByStep (λ w past. w .state .core .measured .alarms ≡ foundIn past)
+found-kept x w past h f = step-found x w ∙ found-told x w past (accepted x w) (all-forced w past (h .force)) f
 
 -- ---- latched
 
-abbrev latchIn : Alarm → Body → Bool
-latchIn a b = flagOf a (b .core .latches)
+abbrev latchOf : Alarm → Body → Bool
+latchOf a b = flagOf a (b .core .latches)
 
 turned-round : (l f : Bool) → (f || l) ≡ (l && true || f)
 turned-round true true = refl
@@ -76,7 +86,7 @@ clear-latch p l f = dropped (l .p) (f .p)
 clear-latch t l f = dropped (l .t) (f .t)
 clear-latch k l f = dropped (l .k) (f .k)
 
-accepted-latch : (a : Alarm) (x : Step) (w : World) → latchIn a (bodyOf (after x w)) ≡ (latch a w && not (clearsAbsent a x w) || findsPresent a x w)
+accepted-latch : (a : Alarm) (x : Step) (w : World) → latchOf a (bodyOf (after x w)) ≡ (latch a w && not (clearsAbsent a x w) || findsPresent a x w)
 unfolding cycled cycledCore turned turnedCore cleared withSession placed readAfter writeAfter committed committedCore
 accepted-latch a (Cycle r) w = cycle-latch a (w .state .core .latches) (alarmsFor (w .state .core .settings) r)
 accepted-latch a (Turn turn) w = kept (latch a w)
@@ -86,9 +96,9 @@ accepted-latch a (Call door act) w = kept (latch a w)
 accepted-latch a (Commit door) w = kept (latch a w)
 
 latch-by : (a : Alarm) (x : Step) (w : World) (n : ℕ) (b : Bool)
-    → latchIn a (bodyOf (cond b (after x w) (refusedBy x w n))) ≡ (latch a w && not (b && clearsAbsent a x w) || b && findsPresent a x w)
+    → latchOf a (bodyOf (cond b (after x w) (refusedBy x w n))) ≡ (latch a w && not (b && clearsAbsent a x w) || b && findsPresent a x w)
 latch-by a x w n true = accepted-latch a x w
-latch-by a x w n false = ap (latchIn a) (refused-body x w n) ∙ kept (latch a w)
+latch-by a x w n false = ap (latchOf a) (refused-body x w n) ∙ kept (latch a w)
 
 step-latch : (a : Alarm) (x : Step) (w : World)
     → latch a ((step x w) .0) ≡ (latch a w && not (accepted x w && clearsAbsent a x w) || accepted x w && findsPresent a x w)
@@ -103,6 +113,11 @@ joined true true f c s = refl
 joined true false f false s = refl
 joined true false true true s = refl
 joined true false false true s = refl
+
+-- a cycle of a run was accepted that found the alarm present, and no Clear after it that found it not present
+abbrev latchedIn : Alarm → List Step → World → Bool
+latchedIn a [] w = false
+latchedIn a (x ∷ xs) w = accepted x w && findsPresent a x w && not (clearedIn a xs ((step x w) .0)) || latchedIn a xs ((step x w) .0)
 
 run-latch : (a : Alarm) (xs : List Step) (w : World) → latch a ((run corrector xs w) .1) ≡ (latch a w && not (clearedIn a xs w) || latchedIn a xs w)
 run-latch a [] w = kept (latch a w)
@@ -120,6 +135,49 @@ latch-stays a x xs w f c =
     let l : latch a v ≡ true = step-latch a x w ∙ rw f (or-true (latch a w && not (accepted x w && clearsAbsent a x w))) in
     run-latch a xs v ∙ rw (l, c)
 
+-- ---- a run from a start
+
+-- a latch after a step, by what the history says
+back-round : (l f : Bool) → (l && true || f) ≡ (f || l)
+back-round true true = refl
+back-round true false = refl
+back-round false true = refl
+back-round false false = refl
+
+still : (l : Bool) → (l && true || false) ≡ l
+still true = refl
+still false = refl
+
+only-present : (l q : Bool) → (l && not (not q) || false) ≡ (l && q)
+only-present true true = refl
+only-present true false = refl
+only-present false q = refl
+
+module _ (a : Alarm) (w : World) (past : History) (force : w .state .core .settings ≡ settingsIn past) (found : w .state .core .measured .alarms ≡ foundIn past) where
+  latch-told : (x : Step) (l : Bool) → (l && not (clearsAbsent a x w) || findsPresent a x w) ≡ latchAfter a x past l
+  latch-told (Cycle r) l = rw force (back-round l (flagOf a (alarmsFor (settingsIn past) r)))
+  latch-told (Turn turn) l = still l
+  latch-told Clear l = rw found (only-present l (flagOf a (foundIn past)))
+  latch-told (Ask question) l = still l
+  latch-told (Call door act) l = still l
+  latch-told (Commit door) l = still l
+
+  latch-told-by : (x : Step) (l d : Bool) → (l && not (d && clearsAbsent a x w) || d && findsPresent a x w) ≡ cond d (latchAfter a x past l) l
+  latch-told-by x l true = latch-told x l
+  latch-told-by x l false = still l
+
+record Shown (a : Alarm) (w : World) (past : History) : Type 0 where
+  found : w .state .core .measured .alarms ≡ foundIn past
+  latched : latch a w ≡ latchIn a past
+
+shown-kept : (a : Alarm) → KeptByStep (Shown a)
+shown-kept a x w past h s = record {
+  found = found-kept x w past h (s .found);
+  latched =
+      step-latch a x w ∙ latch-told-by a w past (all-forced w past (h .force)) (s .found) x (latch a w) (accepted x w)
+      ∙ ap (λ (l : Bool). cond (accepted x w) (latchAfter a x past l) l) (s .latched);
+}
+
 fresh-alarms : (b : Bool) (time supcode custcode : ℕ) → (cond b (fresh time supcode custcode) (fresh 0 0 0) .core .measured .alarms ≡ noAlarm) × (cond b (fresh time supcode custcode) (fresh 0 0 0) .core .latches ≡ noAlarm)
 unfolding fresh freshCore
 fresh-alarms true time supcode custcode = (refl, refl)
@@ -135,14 +193,16 @@ module _ (xs : List Step) (time supcode custcode : ℕ) (archive : List ArchiveL
   abbrev start : World
   start = started time supcode custcode archive log audit
 
-  no-alarms : (start .state .core .measured .alarms ≡ noAlarm) × (start .state .core .latches ≡ noAlarm)
+  pub no-alarms : (start .state .core .measured .alarms ≡ noAlarm) × (start .state .core .latches ≡ noAlarm)
   unfolding startOf
   no-alarms = fresh-alarms (eqb (startRefusal time) 0) time supcode custcode
 
   -- AN ALARM IS PRESENT AS THE LAST ACCEPTED CYCLE FOUND IT, and none before the first
-  pub present-as-found : (run corrector xs start) .1 .state .core .measured .alarms ≡ lastFound xs start noAlarm
-  present-as-found = run-found xs start noAlarm (no-alarms .0)
+  pub present-as-found : (run corrector xs start) .1 .state .core .measured .alarms ≡ foundIn (history xs start)
+  present-as-found =
+      from-start time supcode custcode archive log audit (λ w past. w .state .core .measured .alarms ≡ foundIn past) found-kept (no-alarms .0) xs
 
   -- ITS LATCH SHOWS EXACTLY WHEN it was present in an accepted cycle, and no accepted Clear after that found it not present
-  pub latch-exactly : (a : Alarm) → latch a ((run corrector xs start) .1) ≡ latchedIn a xs start
-  latch-exactly a = run-latch a xs start ∙ rw (no-alarms .1, unlatched a)
+  pub latch-exactly : (a : Alarm) → latch a ((run corrector xs start) .1) ≡ latchIn a (history xs start)
+  latch-exactly a =
+      from-start time supcode custcode archive log audit (Shown a) (shown-kept a) (record { found = no-alarms .0; latched = rw (no-alarms .1, unlatched a) }) xs .latched

@@ -7,13 +7,15 @@ pub mod Keeps
 pub mod Aside
 pub mod Calls
 pub mod Sessions
-pub mod Sums
-pub mod Totals
 pub mod Lines
 pub mod Newest
 pub mod Numbers
 pub mod Crossed
 pub mod Stale
+pub mod InForce
 pub mod Open
+pub mod Seen
+pub mod Sums
+pub mod Totals
 pub mod Times
 pub mod Latches

@@ -4,35 +4,46 @@
 use mathlib.Core.Path.{_≡_, refl, sym, ap, _∙_}
 use mathlib.Core.Bool.{Bool, true, false, cond}
 use mathlib.Core.List.{List, [], _∷_, _++_, append-assoc, append-nil, reverse}
-use Prim.Native.Nat.{ℕ, _+_, _<_}
-use native.Mathlib.Nat.{add-zero, zero-add}
+use Prim.Native.Nat.{ℕ, _+_, _%_, _<_}
+use native.Mathlib.Nat.{add-zero, zero-add, mod-mod}
 use native.Mathlib.Omega.{arith}
 use lib.Dec.{eqb}
+use borrow.Author.Tests.{eqb-true}
 use lib.ListN.{length, length-append, take}
 use Rattle.order.specs.Order.{run}
 use Rattle.ring.specs.declared.Ring.{Ring}
 use Rattle.ring.specs.declared.Book.{Book}
-use Rattle.ring.specs.Ring.{archiveLines, logLines, auditLines, ringAfter, bookAfter, advancedBook}
+use Rattle.calendar.specs.Calendar.{monthOf}
+use Rattle.ring.specs.Ring.{archiveLines, logLines, auditLines, numbers, ringAfter, bookAfter, advancedBook}
 use Rattle.ring.specs.Store.{written}
 use Rattle.ring.proofs.Fresh.{ring-advances, book-advances}
 use Rattle.ring.proofs.Stores.{fresh-written, more-written}
 use Rattle.state.specs.Card.{firstOf}
 use Rattle.state.specs.State.{fresh, freshCore}
-use Rattle.notes.specs.Notes.{logged}
-use Rattle.notes.proofs.Laws.{numbered-length}
-use Rattle.cycle.specs.Cycle.{changes, alarmsFor, cycledCore, cycled}
-use Rattle.panel.specs.Panel.{turnCodes, turnedCore, turned, cleared, startOf, startRefusal}
+use Rattle.notes.specs.Notes.{numbered, logLine, logged}
+use Rattle.notes.proofs.Laws.{numbered-length, numbered-mod}
+use Rattle.cycle.specs.Cycle.{monthLines, changes, alarmsFor, cycledCore, cycled}
+use Rattle.panel.specs.Panel.{lockIn, turnCodes, turnedCore, turned, cleared, startOf, startRefusal}
 use Rattle.doors.specs.Doors.{placed, withSession, readAfter, writeAfter, committedCore, committed}
 use Rattle.books.specs.declared.ArchiveLine.{ArchiveLine}
 use Rattle.books.specs.declared.LogLine.{LogLine}
 use Rattle.books.specs.declared.AuditLine.{AuditLine}
-use Rattle.runs.specs.Run.{Step, Cycle, Turn, Clear, Ask, Call, Commit, World, lockOf, opensIt, numberOf, step, corrector, started, Body, bodyOf}
+use Rattle.runs.specs.Run.{Step, Cycle, Turn, Clear, Ask, Call, Commit, onCycle, World, lockOf, opensIt, numberOf, step, corrector, started, Body, bodyOf}
 use Rattle.runs.specs.Rows.{rowsOf, refusedBy}
-use Rattle.runs.specs.Lines.{Shelf, archiveBy, archiveShelf, logBy, logShelf, auditBy, auditShelf, wrote, holds}
+use Rattle.runs.specs.History.{History, history, lastTime, startTime}
+use Rattle.runs.specs.InForce.{settingsIn}
+use Rattle.runs.specs.Locks.{lockAt}
+use Rattle.runs.specs.Latches.{foundIn}
+use Rattle.runs.specs.Lines.{Shelf, archiveFor, archiveShelf, logFor, logShelf, auditFor, auditShelf, wroteIn, holds}
 use Rattle.runs.proofs.Effects.{after, number-is, world-is, refused-body}
+use Rattle.runs.proofs.InForce.{Agreed, all-forced}
+use Rattle.runs.proofs.Locks.{said-in, turned-lock}
+use Rattle.runs.proofs.Told.{Told, month-told, counters-told, from-start-told}
 
--- What a store supplies: where the state tells of n lines, an accepted step's lines are told after it, and stand in the store.
+-- What a store supplies. `writes` are the lines of an accepted step, by the state before it; where the state tells of n lines, they are told after
+-- it, and stand in the store. And where the state is what the history tells, they are the lines that go by the history.
 pub record Kept (S : Shelf) : Type 1 where
+  pub writes : Step → World → List (S .Line)
   pub Tells : ℕ → Body → Type 0
   pub ring-of : Body → Ring
   pub store-of : Body → List (S .Line)
@@ -40,54 +51,42 @@ pub record Kept (S : Shelf) : Type 1 where
   pub store-is : (w : World) → S .store w ≡ store-of (bodyOf w)
   pub some-line : 0 < S .size
   pub told-ring : (n : ℕ) (b : Body) → Tells n b → ring-of b ≡ ringAfter (S .size) n
-  pub tells-on : (x : Step) (w : World) (n : ℕ) → Tells n (bodyOf w) → Tells (n + length (S .writes x w)) (bodyOf (after x w))
-  pub stores-on : (x : Step) (w : World) → store-of (bodyOf (after x w)) ≡ written (S .size) (ring-of (bodyOf w)) (store-of (bodyOf w)) (S .writes x w)
+  pub tells-on : (x : Step) (w : World) (n : ℕ) → Tells n (bodyOf w) → Tells (n + length (writes x w)) (bodyOf (after x w))
+  pub stores-on : (x : Step) (w : World) → store-of (bodyOf (after x w)) ≡ written (S .size) (ring-of (bodyOf w)) (store-of (bodyOf w)) (writes x w)
+  pub by-history : (t a b n : ℕ) (x : Step) (w : World) (past : History) → Agreed w past → Told t a b w past → Tells n (bodyOf w) → firstOf (rowsOf x w) ≡ 0
+      → writes x w ≡ S .lines t n x past
 
 module _ (S : Shelf) (K : Kept S) where
-  open Kept K using (Tells, ring-of, store-of, ring-is, store-is, some-line, told-ring, tells-on, stores-on)
+  open Kept K using (writes, Tells, ring-of, store-of, ring-is, store-is, some-line, told-ring, tells-on, stores-on, by-history)
 
   -- the state tells of the lines ys, and they stand in the store, which was l when fresh
-  record Holding (l ys : List (S .Line)) (b : Body) : Type 0 where
-    tells : Tells (length ys) b
-    stores : store-of b ≡ written (S .size) (ringAfter (S .size) 0) l ys
+  pub record Holding (l ys : List (S .Line)) (b : Body) : Type 0 where
+    pub tells : Tells (length ys) b
+    pub stores : store-of b ≡ written (S .size) (ringAfter (S .size) 0) l ys
 
-  holding-on : (x : Step) (w : World) (l ys : List (S .Line)) → Holding l ys (bodyOf w) → Holding l (ys ++ S .writes x w) (bodyOf (after x w))
+  holding-on : (x : Step) (w : World) (l ys : List (S .Line)) → Holding l ys (bodyOf w) → Holding l (ys ++ writes x w) (bodyOf (after x w))
   holding-on x w l ys h = record {
-    tells = rw (length-append ys (S .writes x w)) (tells-on x w (length ys) (h .tells));
+    tells = rw (length-append ys (writes x w)) (tells-on x w (length ys) (h .tells));
     stores =
         stores-on x w
-        ∙ rw (told-ring (length ys) (bodyOf w) (h .tells), h .stores, ← zero-add (length ys)) (sym (more-written (S .size) 0 l ys (S .writes x w) some-line));
+        ∙ rw (told-ring (length ys) (bodyOf w) (h .tells), h .stores, ← zero-add (length ys)) (sym (more-written (S .size) 0 l ys (writes x w) some-line));
   }
 
-  holding-by : (x : Step) (w : World) (l ys : List (S .Line)) (k : ℕ) (t : Bool) → Holding l ys (bodyOf w)
-      → Holding l (ys ++ cond t (S .writes x w) []) (bodyOf (cond t (after x w) (refusedBy x w k)))
-  holding-by x w l ys k true h = holding-on x w l ys h
-  holding-by x w l ys k false h = rw (append-nil ys, refused-body x w k) h
+  module _ (t a b : ℕ) (x : Step) (w : World) (past : History) (h : Agreed w past) (s : Told t a b w past) (l ys : List (S .Line)) where
+    abbrev more : List (S .Line)
+    more = S .lines t (length ys) x past
 
-  holding-step : (x : Step) (w : World) (l ys : List (S .Line)) → Holding l ys (bodyOf w)
-      → Holding l (ys ++ cond (eqb (numberOf ((step x w) .1)) 0) (S .writes x w) []) (bodyOf ((step x w) .0))
-  holding-step x w l ys h =
-      let k = firstOf (rowsOf x w) in
-      rw (number-is x w, world-is x w) (holding-by x w l ys k (eqb k 0) h)
+    holding-by : (k : ℕ) → firstOf (rowsOf x w) ≡ k → (u : Bool) → eqb k 0 ≡ u → Holding l ys (bodyOf w) → Holding l (ys ++ cond u more []) (bodyOf (cond u (after x w) (refusedBy x w k)))
+    holding-by k z true e o = rw (← by-history t a b (length ys) x w past h s (o .tells) (z ∙ eqb-true k 0 e)) (holding-on x w l ys o)
+    holding-by k z false e o = rw (append-nil ys, refused-body x w k) o
 
-  holding-run : (xs : List Step) (w : World) (l ys : List (S .Line)) → Holding l ys (bodyOf w) → Holding l (ys ++ wrote S xs w) (bodyOf ((run corrector xs w) .1))
-  holding-run [] w l ys h = rw (append-nil ys) h
-  holding-run (x ∷ xs) w l ys h =
-      let one = cond (eqb (numberOf ((step x w) .1)) 0) (S .writes x w) [] in
-      rw (← append-assoc ys one (wrote S xs ((step x w) .0)))
-      (holding-run xs ((step x w) .0) l (ys ++ one) (holding-step x w l ys h))
-
-  -- the lines written, newest first, as far as the store goes
-  run-holds : (xs : List Step) (w : World) → Tells 0 (bodyOf w) → length (S .store w) ≡ S .size
-      → holds S ((run corrector xs w) .1) ≡ take (S .size) (reverse (wrote S xs w))
-  unfolding written
-  run-holds xs w t e =
-      let v = (run corrector xs w) .1 in
-      let h = holding-run xs w (S .store w) [] (record { tells = t; stores = sym (store-is w) }) in
-      rw (ring-is v, store-is v, told-ring (length (wrote S xs w)) (bodyOf v) (h .tells), h .stores)
-      (fresh-written (S .size) (S .blank) (S .store w) (wrote S xs w) some-line e)
+    holding-step : Holding l ys (bodyOf w) → Holding l (ys ++ cond (eqb (numberOf ((step x w) .1)) 0) more []) (bodyOf ((step x w) .0))
+    holding-step o = let k = firstOf (rowsOf x w) in rw (number-is x w, world-is x w) (holding-by k refl (eqb k 0) refl o)
 
 -- ---- the archive
+
+abbrev pub archiveBy : Step → World → List ArchiveLine
+archiveBy x w = onCycle (λ r. monthLines (w .state .core .measured .counters) (w .state .core .measured .month) (monthOf (r .time))) [] x
 
 abbrev pub ArchiveTells : ℕ → Body → Type 0
 ArchiveTells n b = b .core .stores .archive ≡ ringAfter archiveLines n
@@ -113,8 +112,12 @@ archive-stores (Ask question) w = refl
 archive-stores (Call door act) w = refl
 archive-stores (Commit door) w = refl
 
+pub archive-told : (t a b n : ℕ) (x : Step) (w : World) (past : History) → Told t a b w past → archiveBy x w ≡ archiveFor t n x past
+archive-told t a b n x w past s = rw (counters-told t a b w past s, month-told t a b w past s)
+
 abbrev archiveKept : Kept archiveShelf
 archiveKept = record {
+  writes = archiveBy;
   Tells = ArchiveTells;
   ring-of = λ b. b .core .stores .archive;
   store-of = λ b. b .archive;
@@ -124,9 +127,18 @@ archiveKept = record {
   told-ring = λ n b e. e;
   tells-on = archive-tells;
   stores-on = archive-stores;
+  by-history = λ t a b n x w past h s e z. archive-told t a b n x w past s;
 }
 
 -- ---- the logbook
+
+abbrev pub logBy : Step → World → List LogLine
+logBy (Cycle r) w = logged (w .state .core .stores .log) (r .time) (changes (w .state .core .measured .alarms) (alarmsFor (w .state .core .settings) r))
+logBy (Turn turn) w = logged (w .state .core .stores .log) (w .state .core .measured .time) (turnCodes (lockIn (w .state .core .locks) (lockOf turn)) (lockOf turn) (opensIt turn))
+logBy Clear w = []
+logBy (Ask question) w = []
+logBy (Call door act) w = []
+logBy (Commit door) w = []
 
 abbrev pub LogTells : ℕ → Body → Type 0
 LogTells n b = b .core .stores .log ≡ bookAfter logLines n
@@ -141,7 +153,7 @@ log-on w n time codes e =
 pub log-tells : (x : Step) (w : World) (n : ℕ) → LogTells n (bodyOf w) → LogTells (n + length (logBy x w)) (bodyOf (after x w))
 unfolding cycled cycledCore turned turnedCore cleared withSession placed readAfter writeAfter committed committedCore
 log-tells (Cycle r) w n e = log-on w n (r .time) (changes (w .state .core .measured .alarms) (alarmsFor (w .state .core .settings) r)) e
-log-tells (Turn turn) w n e = log-on w n (w .state .core .measured .time) (turnCodes (w .state .core .locks) (lockOf turn) (opensIt turn)) e
+log-tells (Turn turn) w n e = log-on w n (w .state .core .measured .time) (turnCodes (lockIn (w .state .core .locks) (lockOf turn)) (lockOf turn) (opensIt turn)) e
 log-tells Clear w n e = no-more (bookAfter logLines) (w .state .core .stores .log) n e
 log-tells (Ask question) w n e = no-more (bookAfter logLines) (w .state .core .stores .log) n e
 log-tells (Call door act) w n e = no-more (bookAfter logLines) (w .state .core .stores .log) n e
@@ -161,8 +173,26 @@ pub book-ring : (size n : ℕ) (b : Book) → b ≡ bookAfter size n → b .ring
 unfolding bookAfter
 book-ring size n b e = ap (λ (x : Book). x .ring) e
 
+-- a book into which n lines were written numbers the next ones from n on
+pub logged-from : (n time : ℕ) (b : Book) (codes : List ℕ) → b ≡ bookAfter logLines n → logged b time codes ≡ numbered (logLine time) n codes
+unfolding logged bookAfter
+logged-from n time b codes e = rw e (numbered-mod (logLine time) (n % numbers) n codes (mod-mod n numbers))
+
+log-by-history : (t a b n : ℕ) (x : Step) (w : World) (past : History) → Agreed w past → Told t a b w past → LogTells n (bodyOf w) → firstOf (rowsOf x w) ≡ 0
+    → logBy x w ≡ logFor t n x past
+log-by-history t a b n (Cycle r) w past h s e z =
+    rw (s .found, all-forced w past (h .force)) (logged-from n (r .time) (w .state .core .stores .log) (changes (foundIn past) (alarmsFor (settingsIn past) r)) e)
+log-by-history t a b n (Turn turn) w past h s e z =
+    let at : lockIn (w .state .core .locks) (lockOf turn) ≡ lockAt (lockOf turn) past = rw (s .locks) (said-in a b past (lockOf turn) (turned-lock turn w z)) in
+    rw (at, s .time) (logged-from n (lastTime t past) (w .state .core .stores .log) (turnCodes (lockAt (lockOf turn) past) (lockOf turn) (opensIt turn)) e)
+log-by-history t a b n Clear w past h s e z = refl
+log-by-history t a b n (Ask question) w past h s e z = refl
+log-by-history t a b n (Call door act) w past h s e z = refl
+log-by-history t a b n (Commit door) w past h s e z = refl
+
 abbrev pub logKept : Kept logShelf
 logKept = record {
+  writes = logBy;
   Tells = LogTells;
   ring-of = λ b. b .core .stores .log .ring;
   store-of = λ b. b .log;
@@ -172,9 +202,18 @@ logKept = record {
   told-ring = λ n b e. book-ring logLines n (b .core .stores .log) e;
   tells-on = log-tells;
   stores-on = log-stores;
+  by-history = log-by-history;
 }
 
 -- ---- the audit trail
+
+abbrev pub auditBy : Step → World → List AuditLine
+auditBy (Cycle r) w = []
+auditBy (Turn turn) w = []
+auditBy Clear w = []
+auditBy (Ask question) w = []
+auditBy (Call door act) w = []
+auditBy (Commit door) w = commitLines (w .state) door
 
 abbrev pub AuditTells : ℕ → Body → Type 0
 AuditTells n b = b .core .stores .audit ≡ bookAfter auditLines n
@@ -201,6 +240,7 @@ audit-stores (Commit door) w = refl
 
 abbrev pub auditKept : Kept auditShelf
 auditKept = record {
+  writes = auditBy;
   Tells = AuditTells;
   ring-of = λ b. b .core .stores .audit .ring;
   store-of = λ b. b .audit;
@@ -210,6 +250,7 @@ auditKept = record {
   told-ring = λ n b e. book-ring auditLines n (b .core .stores .audit) e;
   tells-on = audit-tells;
   stores-on = audit-stores;
+  by-history = audit-by-history;
 }
 
 -- ---- a start writes nothing, and no line is then held
@@ -229,17 +270,37 @@ module _ (time supcode custcode : ℕ) (archive : List ArchiveLine) (log : List 
   unfolding startOf
   begun-tells = fresh-tells (eqb (startRefusal time) 0)
 
+  -- after any run a store holds the last of the lines that its history says were written, and the state tells how many these were
+  module _ (S : Shelf) (K : Kept S) (xs : List Step) (t : K .Tells 0 (bodyOf begun)) where
+    abbrev end : World
+    end = (run corrector xs begun) .1
+
+    abbrev lines : List (S .Line)
+    lines = wroteIn S (startTime time) (history xs begun)
+
+    pub holding : Holding S K (S .store begun) lines (bodyOf end)
+    unfolding written
+    holding =
+        from-start-told time supcode custcode archive log audit (λ w past. Holding S K (S .store begun) (wroteIn S (startTime time) past) (bodyOf w))
+        (λ x w past h s o. holding-step S K _ _ _ x w past h s (S .store begun) (wroteIn S (startTime time) past) o)
+        (record { tells = t; stores = sym (K .store-is begun) }) xs
+
+    pub run-holds : length (S .store begun) ≡ S .size → holds S end ≡ take (S .size) (reverse lines)
+    run-holds e =
+        rw (K .ring-is end, K .store-is end, K .told-ring (length lines) (bodyOf end) (holding .tells), holding .stores)
+        (fresh-written (S .size) (S .blank) (S .store begun) lines (K .some-line) e)
+
   -- THE ARCHIVE HOLDS THE LAST 15 OF THE LINES WRITTEN, newest first
   pub archive-holds : (xs : List Step) → length archive ≡ archiveLines
-      → holds archiveShelf ((run corrector xs begun) .1) ≡ take archiveLines (reverse (wrote archiveShelf xs begun))
-  archive-holds xs e = run-holds archiveShelf archiveKept xs begun (begun-tells .0) e
+      → holds archiveShelf ((run corrector xs begun) .1) ≡ take archiveLines (reverse (wroteIn archiveShelf (startTime time) (history xs begun)))
+  archive-holds xs e = run-holds archiveShelf archiveKept xs (begun-tells .0) e
 
   -- THE LOGBOOK THE LAST 250
   pub log-holds : (xs : List Step) → length log ≡ logLines
-      → holds logShelf ((run corrector xs begun) .1) ≡ take logLines (reverse (wrote logShelf xs begun))
-  log-holds xs e = run-holds logShelf logKept xs begun (begun-tells .1) e
+      → holds logShelf ((run corrector xs begun) .1) ≡ take logLines (reverse (wroteIn logShelf (startTime time) (history xs begun)))
+  log-holds xs e = run-holds logShelf logKept xs (begun-tells .1) e
 
   -- THE AUDIT TRAIL THE LAST 200, and they are those of the commits
   pub audit-holds : (xs : List Step) → length audit ≡ auditLines
-      → holds auditShelf ((run corrector xs begun) .1) ≡ take auditLines (reverse (wrote auditShelf xs begun))
-  audit-holds xs e = run-holds auditShelf auditKept xs begun (begun-tells .2) e
+      → holds auditShelf ((run corrector xs begun) .1) ≡ take auditLines (reverse (wroteIn auditShelf (startTime time) (history xs begun)))
+  audit-holds xs e = run-holds auditShelf auditKept xs (begun-tells .2) e

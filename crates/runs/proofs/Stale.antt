@@ -34,6 +34,7 @@ use Rattle.runs.specs.Exactly.{earlier}
 use Rattle.runs.specs.Rows.{rowsOf, unsound, refusedBy}
 use Rattle.runs.specs.Run.{Step, Cycle, Turn, Clear, Ask, Call, Commit, Begin, Read, Write, Abandon, World, Reply, numberOf, step, corrector, started}
 use Rattle.runs.specs.History.{History, history}
+use Rattle.runs.specs.InForce.{writtenBy, lastWritten}
 use Rattle.runs.specs.Stale.{Deed, nothing, begins, commits, reads, writes, deed, beginsAt, commitsAt, readsAt, writesAt, hasRead, hasStaged, otherDoor, overtakenIn, stale}
 use Rattle.runs.proofs.Exactly.{silent}
 use Rattle.runs.proofs.Cells.{at-set, overtaken-length}
@@ -41,15 +42,17 @@ use Rattle.runs.proofs.Effects.{after, number-is, world-is, refused-whe
 
 -- ---- what a session's cells say, and what the history says
 
-pub record Marks (c : Cell) (p q r : Bool) : Type 0 where
+-- staged, read, overtaken; and the value staged, v where none is
+pub record Marks (c : Cell) (p q r : Bool) (u : Value → Value) : Type 0 where
   pub staged : c .staged ≡ p
   pub read : c .read ≡ q
   pub overtaken : c .overtaken ≡ r
+  pub value : (v : Value) → cond (c .staged) (c .value) v ≡ u v
 
-record Known (door : ℕ) (s : Session) (past : History) : Type 0 where
-  sized : length (s .cells) ≡ settingCount
-  tells : s .live ≡ true → (k : ℕ) → noSuchSetting k ≡ false
-      → Marks (cellAt s k) (hasStaged door k past) (hasRead door k past) (overtakenIn door k past)
+pub record Known (door : ℕ) (s : Session) (past : History) : Type 0 where
+  pub sized : length (s .cells) ≡ settingCount
+  pub tells : s .live ≡ true → (k : ℕ) → noSuchSetting k ≡ false
+      → Marks (cellAt s k) (hasStaged door k past) (hasRead door k past) (overtakenIn door k past) (λ v. lastWritten door k v past)
 
 -- ---- a deed and one session
 
@@ -59,23 +62,31 @@ record Idle (door : ℕ) (y : Deed) : Type 0 where
   no-commit : commitsAt (otherDoor door) y ≡ false
   no-read : (k : ℕ) → readsAt door k y ≡ false
   no-write : (k : ℕ) → writesAt door k y ≡ false
+  no-value : (k : ℕ) (v : Value) → writtenBy door k y v ≡ v
 
 idle-nothing : (door : ℕ) → Idle door nothing
-idle-nothing door = record { no-begin = refl; no-commit = refl; no-read = λ k. refl; no-write = λ k. refl }
+idle-nothing door = record { no-begin = refl; no-commit = refl; no-read = λ k. refl; no-write = λ k. refl; no-value = λ k v. refl }
 
 idle-begins : (door d : ℕ) → eqb d door ≡ false → Idle door (begins d)
-idle-begins door d e = record { no-begin = e; no-commit = refl; no-read = λ k. refl; no-write = λ k. refl }
+idle-begins door d e = record { no-begin = e; no-commit = refl; no-read = λ k. refl; no-write = λ k. refl; no-value = λ k v. refl }
 
 idle-reads : (door d j : ℕ) → eqb d door ≡ false → Idle door (reads d j)
-idle-reads door d j e = record { no-begin = refl; no-commit = refl; no-read = λ k. rw e; no-write = λ k. refl }
+idle-reads door d j e = record { no-begin = refl; no-commit = refl; no-read = λ k. rw e; no-write = λ k. refl; no-value = λ k v. refl }
 
-idle-writes : (door d j : ℕ) → eqb d door ≡ false → Idle door (writes d j)
-idle-writes door d j e = record { no-begin = refl; no-commit = refl; no-read = λ k. refl; no-write = λ k. rw e }
+idle-writes : (door d j : ℕ) (u : Value) → eqb d door ≡ false → Idle door (writes d j u)
+idle-writes door d j u e = record { no-begin = refl; no-commit = refl; no-read = λ k. refl; no-write = λ k. rw e; no-value = λ k v. rw e }
 
 idle-known : (door : ℕ) (s : Session) (past : History) (x : Step × Reply) → Idle door (deed x) → Known door s past → Known door s (x ∷ past)
 idle-known door s past x i h = record {
   sized = h .sized;
-  tells = λ l k e. rw (i .no-begin, i .no-commit, i .no-read k, i .no-write k) (h .tells l k e);
+  tells = λ l k e.
+      let m = h .tells l k e in
+      rw (i .no-begin, i .no-commit, i .no-read k, i .no-write k) (record {
+        staged = m .staged;
+        read = m .read;
+        overtaken = m .overtaken;
+        value = λ v. m .value v ∙ sym (i .no-value k (lastWritten door k v past));
+      });
 }
 
 -- no session
@@ -92,7 +103,7 @@ begun-known : (door : ℕ) (past : History) (x : Step × Reply) → beginsAt doo
 unfolding begun cellAt
 begun-known door past x b = record {
   sized = refl;
-  tells = λ l k e. rw (b, blank-at settingCount (k - 1)) (record { staged = refl; read = refl; overtaken = refl });
+  tells = λ l k e. rw (b, blank-at settingCount (k - 1)) (record { staged = refl; read = refl; overtaken = refl; value = λ v. refl });
 }
 
 -- ---- read and write
@@ -110,15 +121,24 @@ inside s j e f =
     let q = ltb-false settingCount j (or-false-right (ltb j 1) (ltb settingCount j) f) in
     omega arith
 
--- a flag that the new cell of setting j has set: it stands at j, and elsewhere is as it was
-module _ (f : Cell → Bool) (s : Session) (j : ℕ) (c : Cell) (set-flag : f c ≡ true) (e : noSuchSetting j ≡ false) (z : length (s .cells) ≡ settingCount) where
-  flag-by : (k : ℕ) (t : Bool) → noSuchSetting k ≡ false → eqb j k ≡ t → f (cellAt (withCell s j c) k) ≡ (t || f (cellAt s k))
+-- what the new cell of setting j has stands at j, and elsewhere it is as it was
+module _ {B : Type 0} (f : Cell → B) (s : Session) (j : ℕ) (c : Cell) (e : noSuchSetting j ≡ false) (z : length (s .cells) ≡ settingCount) where
+  put-by : (k : ℕ) (t : Bool) → noSuchSetting k ≡ false → eqb j k ≡ t → f (cellAt (withCell s j c) k) ≡ cond t (f c) (f (cellAt s k))
   unfolding cellAt withCell
-  flag-by k true g h = rw (sym (eqb-true j k h), getD-set-same (s .cells) (j - 1) c blankCell (inside s j z e)) set-flag
-  flag-by k false g h = ap f (getD-set-other (s .cells) (j - 1) (k - 1) c blankCell (apart k j g e h))
+  put-by k true g h = rw (sym (eqb-true j k h), getD-set-same (s .cells) (j - 1) c blankCell (inside s j z e))
+  put-by k false g h = ap f (getD-set-other (s .cells) (j - 1) (k - 1) c blankCell (apart k j g e h))
 
-  flag-set : (k : ℕ) → noSuchSetting k ≡ false → f (cellAt (withCell s j c) k) ≡ (eqb j k || f (cellAt s k))
-  flag-set k g = flag-by k (eqb j k) g refl
+  put-at : (k : ℕ) → noSuchSetting k ≡ false → f (cellAt (withCell s j c) k) ≡ cond (eqb j k) (f c) (f (cellAt s k))
+  put-at k g = put-by k (eqb j k) g refl
+
+-- a flag that it has set
+set-or : (t b : Bool) → cond t true b ≡ (t || b)
+set-or true b = refl
+set-or false b = refl
+
+flag-set : (f : Cell → Bool) (s : Session) (j : ℕ) (c : Cell) → f c ≡ true → noSuchSetting j ≡ false → length (s .cells) ≡ settingCount
+    → (k : ℕ) → noSuchSetting k ≡ false → f (cellAt (withCell s j c) k) ≡ (eqb j k || f (cellAt s k))
+flag-set f s j c t e z k g = put-at f s j c e z k g ∙ rw t (set-or (eqb j k) (f (cellAt s k)))
 
 -- any other flag is as it was
 flag-kept : {B : Type 0} (f : Cell → B) (s : Session) (j : ℕ) (c : Cell) → f c ≡ f (cellAt s j) → (k : ℕ) → f (cellAt (withCell s j c) k) ≡ f (cellAt s k)
@@ -147,10 +167,11 @@ read-known door s past x j d e h =
             staged = flag-kept (λ (y : Cell). y .staged) s j c refl k ∙ m .staged;
             read = flag-set (λ (y : Cell). y .read) s j c refl e (h .sized) k g ∙ ap (λ t. eqb j k || t) (m .read);
             overtaken = flag-kept (λ (y : Cell). y .overtaken) s j c refl k ∙ m .overtaken;
+            value = λ v. flag-kept (λ (y : Cell). cond (y .staged) (y .value) v) s j c refl k ∙ m .value v;
           });
     }
 
-write-known : (door : ℕ) (s : Session) (past : History) (x : Step × Reply) (j : ℕ) (v : Value) → deed x ≡ writes door j → noSuchSetting j ≡ false → Known door s past
+write-known : (door : ℕ) (s : Session) (past : History) (x : Step × Reply) (j : ℕ) (v : Value) → deed x ≡ writes door j v → noSuchSetting j ≡ false → Known door s past
     → Known door (withCell s j (stagedCell (cellAt s j) v)) (x ∷ past)
 unfolding stagedCell
 write-known door s past x j v d e h =
@@ -164,6 +185,7 @@ write-known door s past x j v d e h =
             staged = flag-set (λ (y : Cell). y .staged) s j c refl e (h .sized) k g ∙ ap (λ t. eqb j k || t) (m .staged);
             read = flag-kept (λ (y : Cell). y .read) s j c refl k ∙ m .read;
             overtaken = flag-kept (λ (y : Cell). y .overtaken) s j c refl k ∙ m .overtaken;
+            value = λ u. put-at (λ (y : Cell). cond (y .staged) (y .value) u) s j c e (h .sized) k g ∙ ap (λ t. cond (eqb j k) v t) (m .value u);
           });
     }
 
@@ -195,14 +217,15 @@ commit-known door m s past x d a f h =
             staged = q .staged;
             read = q .read;
             overtaken = either-way (e .overtaken) (e .read) (c .staged) ∙ rw (p .staged, q .read, q .overtaken);
+            value = q .value;
           });
     }
 
 -- ---- a step and both sessions
 
-record Both (w : World) (past : History) : Type 0 where
-  keypad : Known 1 (w .state .keypad) past
-  port : Known 2 (w .state .port) past
+pub record Both (w : World) (past : History) : Type 0 where
+  pub keypad : Known 1 (w .state .keypad) past
+  pub port : Known 2 (w .state .port) past
 
 idle-both : (x : Step × Reply) (w : World) (past : History) → deed x ≡ nothing → Both w past → Both w (x ∷ past)
 idle-both x w past e b = record {
@@ -260,10 +283,10 @@ module _ (w : World) (past : History) (b : Both w past) (a : Reply) (done : eqb 
   write-both j v e = each-door (λ door. Both (after (Call door (Write j v)) w) ((Call door (Write j v), a) ∷ past))
       (record {
         keypad = write-known 1 (w .state .keypad) past (Call 1 (Write j v), a) j v (rw done) e (b .keypad);
-        port = idle-known 2 (w .state .port) past (Call 1 (Write j v), a) (rw done (idle-writes 2 1 j refl)) (b .port);
+        port = idle-known 2 (w .state .port) past (Call 1 (Write j v), a) (rw done (idle-writes 2 1 j v refl)) (b .port);
       })
       (record {
-        keypad = idle-known 1 (w .state .keypad) past (Call 2 (Write j v), a) (rw done (idle-writes 1 2 j refl)) (b .keypad);
+        keypad = idle-known 1 (w .state .keypad) past (Call 2 (Write j v), a) (rw done (idle-writes 1 2 j v refl)) (b .keypad);
         port = write-known 2 (w .state .port) past (Call 2 (Write j v), a) j v (rw done) e (b .port);
       })
 
@@ -320,7 +343,7 @@ step-both-by : (x : Step) (w : World) (past : History) (a : Reply) (k : ℕ) →
 step-both-by x w past a k z e true q b = done-both w past b a (rw e q) x (z ∙ eqb-true k 0 q)
 step-both-by x w past a k z e false q b = idle-both (x, a) (refusedBy x w k) past (rw (e, q)) (refused-both x w k past b)
 
-step-both : (x : Step) (w : World) (past : History) → Both w past → Both ((step x w) .0) ((x, (step x w) .1) ∷ past)
+pub step-both : (x : Step) (w : World) (past : History) → Both w past → Both ((step x w) .0) ((x, (step x w) .1) ∷ past)
 step-both x w past b =
     let k = firstOf (rowsOf x w) in
     rw (world-is x w) (step-both-by x w past ((step x w) .1) k refl (number-is x w) (eqb k 0) refl b)
@@ -331,17 +354,17 @@ run-both (x ∷ xs) w past b = run-both xs ((step x w) .0) ((x, (step x w) .1) �
 
 -- ---- a run from a start
 
-fresh-both : (t : Bool) (time supcode custcode : ℕ) → Known 1 (cond t (fresh time supcode custcode) (fresh 0 0 0) .keypad) [] × Known 2 (cond t (fresh time supcode custcode) (fresh 0 0 0) .port) []
+pub fresh-both : (t : Bool) (time supcode custcode : ℕ) → Known 1 (cond t (fresh time supcode custcode) (fresh 0 0 0) .keypad) [] × Known 2 (cond t (fresh time supcode custcode) (fresh 0 0 0) .port) []
 unfolding fresh
 fresh-both true time supcode custcode = (none-known 1 [], none-known 2 [])
 fresh-both false time supcode custcode = (none-known 1 [], none-known 2 [])
 
-same-below : (f g : ℕ → Bool) (n : ℕ) → ((k : ℕ) → k < n → f k ≡ g k) → anyBelow f n ≡ anyBelow g n
+pub same-below : (f g : ℕ → Bool) (n : ℕ) → ((k : ℕ) → k < n → f k ≡ g k) → anyBelow f n ≡ anyBelow g n
 unfolding anyBelow
 same-below f g zero h = refl
 same-below f g (suc n) h = rw (h n (omega arith), same-below f g n (λ k l. h k (omega arith)))
 
-in-table : (k : ℕ) → k < settingCount → noSuchSetting (k + 1) ≡ false
+pub in-table : (k : ℕ) → k < settingCount → noSuchSetting (k + 1) ≡ false
 in-table k l = rw (le-ltb (k + 1) 1 (omega arith), le-ltb settingCount (k + 1) (omega arith))
 
 -- of the rows before 11: the door is one, and has a session
@@ -357,19 +380,20 @@ module _ (xs : List Step) (time supcode custcode : ℕ) (archive : List ArchiveL
   abbrev end : World
   end = (run corrector xs start) .1
 
-  both : Both end (history xs start)
+  pub both : Both end (history xs start)
   unfolding startOf
   both =
       let (p, q) = fresh-both (eqb (startRefusal time) 0) time supcode custcode in
       run-both xs start [] (record { keypad = p; port = q })
 
-  known : (door : ℕ) → noDoor door ≡ false → Known door (sessionAt (end .state) door) (history xs start)
+  pub known : (door : ℕ) → noDoor door ≡ false → Known door (sessionAt (end .state) door) (history xs start)
   unfolding sessionAt
   known = each-door (λ door. Known door (sessionAt (end .state) door) (history xs start)) (both .keypad) (both .port)
 
-  -- WHAT AN OPEN SESSION'S CELLS SAY OF A SETTING IS WHAT THE HISTORY SAYS: staged, read, overtaken
+  -- WHAT AN OPEN SESSION'S CELLS SAY OF A SETTING IS WHAT THE HISTORY SAYS: staged and at which value, read, overtaken
   pub marks-exactly : (door setting : ℕ) → noDoor door ≡ false → noSuchSetting setting ≡ false → sessionAt (end .state) door .live ≡ true
       → Marks (cellAt (sessionAt (end .state) door) setting) (hasStaged door setting (history xs start)) (hasRead door setting (history xs start)) (overtakenIn door setting (history xs start))
+      (λ v. lastWritten door setting v (history xs start))
   marks-exactly door setting d k l = known door d .tells l setting k
 
   stale-same : (door : ℕ) → noDoor door ≡ false → sessionAt (end .state) door .live ≡ true → staleB (sessionAt (end .state) door .cells) ≡ stale door (history xs start)

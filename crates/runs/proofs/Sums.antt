@@ -5,7 +5,7 @@ use mathlib.Core.Path.{_≡_, refl, sym, ap, _∙_}
 use mathlib.Core.Bool.{Bool, true, false, cond, _&&_, true≢false}
 use mathlib.Core.List.{List, [], _∷_}
 use Prim.Native.Nat.{ℕ, _+_, _%_}
-use native.Mathlib.Nat.{add-assoc, add-zero, zero-add, mod-add-mod}
+use native.Mathlib.Nat.{add-zero, mod-add-mod}
 use mathlib.Core.Logic.{_⊎_, inl, inr}
 use lib.Dec.{ltb, leb, eqb}
 use borrow.Author.Tests.{eqb-true}
@@ -23,11 +23,14 @@ use Rattle.doors.specs.Doors.{placed, withSession, readAfter, writeAfter, commi
 use Rattle.books.specs.declared.ArchiveLine.{ArchiveLine}
 use Rattle.books.specs.declared.LogLine.{LogLine}
 use Rattle.books.specs.declared.AuditLine.{AuditLine}
-use Rattle.runs.specs.Run.{Step, Cycle, Turn, Clear, Ask, Call, Commit, World, step, corrector, started, Body, bodyOf}
-use Rattle.runs.specs.Sums.{Counter, Vm, VmD, Vb, VbD, litresBy, baseBy, putBy, amountOf, putsOn, sumOn, shownBy, shows, rollover}
+use Rattle.runs.specs.Run.{Step, Cycle, Turn, Clear, Ask, Call, Commit, onCycle, World, numberOf, step, corrector, started, Body, bodyOf}
+use Rattle.runs.specs.History.{History, history}
+use Rattle.runs.specs.InForce.{settingsIn}
+use Rattle.runs.specs.Sums.{Counter, Vm, VmD, Vb, VbD, litresBy, baseBy, putBy, amountOf, putIn, sumIn, shownBy, shows, rollover}
 use Rattle.runs.specs.Rows.{rowsOf}
 use Rattle.runs.proofs.Effects.{after, number-is, world-is, leaves}
 use Rattle.runs.proofs.Exactly.{silent}
+use Rattle.runs.proofs.InForce.{Agreed, KeptByStep, all-forced, from-start}
 
 abbrev countersIn : Body → Counters
 countersIn b = b .core .measured .counters
@@ -86,6 +89,10 @@ kept : (c : Counter) (x : Step) (w : World) (s : ℕ) → shows c w ≡ s % roll
     → shows c ((step x w) .0) ≡ (s + 0) % rollover c
 kept c x w s e h = ap (shownBy c) (leaves countersIn x w h) ∙ same (rollover c) s (shows c w) e
 
+-- what a step puts on a counter, by the settings in force in the world: an accepted cycle its amount, and anything else nothing
+abbrev putsOn : Counter → Step → World → ℕ
+putsOn c x w = onCycle (λ r. cond (eqb (numberOf ((step x w) .1)) 0) (amountOf c (w .state .core .settings) r) 0) 0 x
+
 step-adds : (c : Counter) (x : Step) (w : World) (s : ℕ) → shows c w ≡ s % rollover c → shows c ((step x w) .0) ≡ (s + putsOn c x w) % rollover c
 unfolding turned turnedCore cleared withSession placed readAfter writeAfter committed committedCore
 step-adds c (Cycle r) w s e =
@@ -99,13 +106,14 @@ step-adds c (Ask question) w s e = kept c (Ask question) w s e refl
 step-adds c (Call door act) w s e = kept c (Call door act) w s e refl
 step-adds c (Commit door) w s e = kept c (Commit door) w s e refl
 
--- ---- the run
+-- ---- a run from a start
 
-run-adds : (c : Counter) (xs : List Step) (w : World) (s : ℕ) → shows c w ≡ s % rollover c → shows c ((run corrector xs w) .1) ≡ (s + sumOn c xs w) % rollover c
-run-adds c [] w s e = same (rollover c) s (shows c w) e
-run-adds c (x ∷ xs) w s e =
-    run-adds c xs ((step x w) .0) (s + putsOn c x w) (step-adds c x w s e)
-    ∙ ap (λ (k : ℕ). k % rollover c) (add-assoc s (putsOn c x w) (sumOn c xs ((step x w) .0)))
+-- the settings in the world are those of the history, and so is what a step puts on a counter
+puts-told : (c : Counter) (x : Step) (w : World) (past : History) → w .state .core .settings ≡ settingsIn past → putsOn c x w ≡ putIn c (x, (step x w) .1) past
+puts-told c x w past e = ap (λ (a : List Setting). onCycle (λ r. cond (eqb (numberOf ((step x w) .1)) 0) (amountOf c a r) 0) 0 x) e
+
+pub sums-kept : (c : Counter) → KeptByStep (λ w past. shows c w ≡ sumIn c past % rollover c)
+sums-kept c x w past h e = step-adds c x w (sumIn c past) e ∙ ap (λ (k : ℕ). (sumIn c past + k) % rollover c) (puts-told c x w past (all-forced w past (h .force)))
 
 fresh-shows : (c : Counter) (t : Bool) (time supcode custcode : ℕ) → shownBy c (cond t (fresh time supcode custcode) (fresh 0 0 0) .core .measured .counters) ≡ 0 % rollover c
 unfolding fresh freshCore nothingCounted
@@ -118,11 +126,14 @@ fresh-shows Vb false time supcode custcode = refl
 fresh-shows VbD true time supcode custcode = refl
 fresh-shows VbD false time supcode custcode = refl
 
--- THE SUMS
-pub sums : (c : Counter) (xs : List Step) (time supcode custcode : ℕ) (archive : List ArchiveLine) (log : List LogLine) (audit : List AuditLine)
-    → shows c ((run corrector xs (started time supcode custcode archive log audit)) .1)
-    ≡ sumOn c xs (started time supcode custcode archive log audit) % rollover c
-unfolding startOf
-sums c xs time supcode custcode archive log audit =
-    let w = started time supcode custcode archive log audit in
-    run-adds c xs w 0 (fresh-shows c (eqb (startRefusal time) 0) time supcode custcode) ∙ ap (λ (k : ℕ). k % rollover c) (zero-add (sumOn c xs w))
+module _ (c : Counter) (xs : List Step) (time supcode custcode : ℕ) (archive : List ArchiveLine) (log : List LogLine) (audit : List AuditLine) where
+  abbrev start : World
+  start = started time supcode custcode archive log audit
+
+  pub start-shows : shows c start ≡ 0 % rollover c
+  unfolding startOf
+  start-shows = fresh-shows c (eqb (startRefusal time) 0) time supcode custcode
+
+  -- THE SUMS
+  pub sums : shows c ((run corrector xs start) .1) ≡ sumIn c (history xs start) % rollover c
+  sums = from-start time supcode custcode archive log audit (λ w past. shows c w ≡ sumIn c past % rollover c) (sums-kept c) start-shows xs

@@ -1,9 +1,8 @@
--- The time is that of the last accepted cycle of the run, or the start's; the month is that of the time, and so the archive's months run from
--- the start's to the last accepted cycle's. By the length of the run.
+-- The time is that of the last accepted cycle of the run, or the start's; the month is that of the time. By the length of the run.
 -- Assumes nothing.
 use mathlib.Core.Path.{_≡_, refl, ap, _∙_}
 use mathlib.Core.Bool.{Bool, true, false, cond}
-use mathlib.Core.List.{List, [], _∷_, map, reverseAux}
+use mathlib.Core.List.{List, [], _∷_, reverseAux}
 use Prim.Native.Nat.{ℕ}
 use lib.Dec.{leb, eqb}
 use borrow.Author.Tests.{eqb-true}
@@ -16,15 +15,13 @@ use Rattle.state.specs.State.{fresh, freshCore}
 use Rattle.state.specs.Card.{firstOf}
 use Rattle.state.proofs.Sound.{measured-sound, whole-sound}
 use Rattle.state.specs.declared.Measured.{Measured}
-use Rattle.cycle.specs.Cycle.{monthsCrossed, cycledCore}
+use Rattle.cycle.specs.Cycle.{cycledCore}
 use Rattle.panel.specs.Panel.{startOf, startRefusal}
 use Rattle.runs.specs.Run.{Step, World, numberOf, step, corrector, started, Body, bodyOf}
 use Rattle.runs.specs.Rows.{rowsOf, refusedBy}
-use Rattle.runs.specs.Lines.{archiveShelf, wrote}
 use Rattle.runs.specs.History.{History, history, timeBy, lastTime, startTime}
 use Rattle.runs.proofs.Keeps.{always-whole}
 use Rattle.runs.proofs.Effects.{after, part-by, number-is, world-is, refused-body}
-use Rattle.runs.proofs.Crossed.{months-crossed}
 
 abbrev timeIn : Body → ℕ
 timeIn b = b .core .measured .time
@@ -39,7 +36,7 @@ time-by : (x : Step) (w : World) (k : ℕ) (t : Bool) → timeIn (bodyOf (cond t
 time-by x w k true = accepted-time x w
 time-by x w k false = ap timeIn (refused-body x w k)
 
-step-time : (x : Step) (w : World) → (step x w) .0 .state .core .measured .time ≡ cond (eqb (numberOf ((step x w) .1)) 0) (timeBy x (w .state .core .measured .time)) (w .state .core .measured .time)
+pub step-time : (x : Step) (w : World) → (step x w) .0 .state .core .measured .time ≡ cond (eqb (numberOf ((step x w) .1)) 0) (timeBy x (w .state .core .measured .time)) (w .state .core .measured .time)
 step-time x w = let k = firstOf (rowsOf x w) in rw (number-is x w, world-is x w) (time-by x w k (eqb k 0))
 
 -- ---- a run
@@ -49,12 +46,12 @@ run-time : (xs : List Step) (w : World) (t : ℕ) (past : History) → w .state 
 run-time [] w t past e = e
 run-time (x ∷ xs) w t past e = run-time xs ((step x w) .0) t ((x, (step x w) .1) ∷ past) (step-time x w ∙ rw e)
 
-start-time : (time supcode custcode : ℕ) (t : Bool) → leb endOfTime time ≡ t → startOf time supcode custcode .state .core .measured .time ≡ startTime time
+pub start-time : (time supcode custcode : ℕ) (t : Bool) → leb endOfTime time ≡ t → startOf time supcode custcode .state .core .measured .time ≡ startTime time
 unfolding startOf startRefusal fresh freshCore
 start-time time supcode custcode true e = rw e
 start-time time supcode custcode false e = rw e
 
-start-month : (time supcode custcode : ℕ) (t : Bool) → leb endOfTime time ≡ t → startOf time supcode custcode .state .core .measured .month ≡ monthOf (startTime time)
+pub start-month : (time supcode custcode : ℕ) (t : Bool) → leb endOfTime time ≡ t → startOf time supcode custcode .state .core .measured .month ≡ monthOf (startTime time)
 unfolding startOf startRefusal fresh freshCore
 start-month time supcode custcode true e = rw e
 start-month time supcode custcode false e = rw e
@@ -75,8 +72,3 @@ module _ (xs : List Step) (time supcode custcode : ℕ) (archive : List ArchiveL
   last-month =
       eqb-true (end .state .core .measured .month) (monthOf (end .state .core .measured .time)) (measured-sound (end .state .core .measured) (whole-sound (end .state) (always-whole xs time supcode custcode archive log audit) .core .measured) .in-month)
       ∙ ap monthOf last-time
-
-  -- THE ARCHIVE'S MONTHS are those from the month of the start up to, but not including, the month of the last accepted cycle
-  pub archived-months : map (λ (l : ArchiveLine). l .month) (wrote archiveShelf xs start)
-      ≡ monthsCrossed (monthOf (startTime time)) (monthOf (lastTime (startTime time) (history xs start)))
-  archived-months = months-crossed xs start ∙ rw (start-month time supcode custcode (leb endOfTime time) refl, last-month)

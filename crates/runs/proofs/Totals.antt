@@ -16,16 +16,17 @@ use Rattle.panel.proofs.Laws.{total-litres, total-base}
 use Rattle.runs.specs.Run.{Step, Ask, World, giving, step, corrector, started}
 use Rattle.commands.specs.declared.Question.the-variants as question
 use Rattle.commands.specs.declared.Given.the-variants as given
-use Rattle.runs.specs.Sums.{Vm, VmD, Vb, VbD, sumOn}
+use Rattle.runs.specs.Sums.{Vm, VmD, Vb, VbD, sumIn}
+use Rattle.runs.specs.History.{History, history}
 use Rattle.runs.proofs.Keeps.{always-whole}
 use Rattle.runs.proofs.Sums.{sums}
 
 -- a counter by what it shows
-litres-shown : (v : Litres) (s : ℕ) → v .0 ≡ s % litresRollover → v ≡ litresShown s
+pub litres-shown : (v : Litres) (s : ℕ) → v .0 ≡ s % litresRollover → v ≡ litresShown s
 unfolding litresShown
 litres-shown v s e = λ i. record { 0 = e i }
 
-base-shown : (v : BaseUnits) (s : ℕ) → v .0 ≡ s % baseRollover → v ≡ baseShown s
+pub base-shown : (v : BaseUnits) (s : ℕ) → v .0 ≡ s % baseRollover → v ≡ baseShown s
 unfolding baseShown
 base-shown v s e = λ i. record { 0 = e i }
 
@@ -36,21 +37,24 @@ module _ (xs : List Step) (time supcode custcode : ℕ) (archive : List ArchiveL
   abbrev end : World
   end = (run corrector xs start) .1
 
+  abbrev past : History
+  past = history xs start
+
   -- a report after a run is given
   pub report-given : (step (Ask question.Report) end) .1 ≡ giving 0 (given.Report (reported (end .state .core)))
   unfolding reportBy reportRefusal
   report-given = rw (always-whole xs time supcode custcode archive log audit)
 
   -- ITS VmT IS THE SUM OF BOTH COUNTERS' SUMS, under the rollover
-  pub total-measured : reported (end .state .core) .vmt ≡ litresShown (sumOn Vm xs start + sumOn VmD xs start)
+  pub total-measured : reported (end .state .core) .vmt ≡ litresShown (sumIn Vm past + sumIn VmD past)
   total-measured =
-      total-litres (end .state .core) (sumOn Vm xs start) (sumOn VmD xs start)
-      (litres-shown (end .state .core .measured .counters .vm) (sumOn Vm xs start) (sums Vm xs time supcode custcode archive log audit))
-      (litres-shown (end .state .core .measured .counters .vmd) (sumOn VmD xs start) (sums VmD xs time supcode custcode archive log audit))
+      total-litres (end .state .core) (sumIn Vm past) (sumIn VmD past)
+      (litres-shown (end .state .core .measured .counters .vm) (sumIn Vm past) (sums Vm xs time supcode custcode archive log audit))
+      (litres-shown (end .state .core .measured .counters .vmd) (sumIn VmD past) (sums VmD xs time supcode custcode archive log audit))
 
   -- AND ITS VbT
-  pub total-at-base : reported (end .state .core) .vbt ≡ baseShown (sumOn Vb xs start + sumOn VbD xs start)
+  pub total-at-base : reported (end .state .core) .vbt ≡ baseShown (sumIn Vb past + sumIn VbD past)
   total-at-base =
-      total-base (end .state .core) (sumOn Vb xs start) (sumOn VbD xs start)
-      (base-shown (end .state .core .measured .counters .vb) (sumOn Vb xs start) (sums Vb xs time supcode custcode archive log audit))
-      (base-shown (end .state .core .measured .counters .vbd) (sumOn VbD xs start) (sums VbD xs time supcode custcode archive log audit))
+      total-base (end .state .core) (sumIn Vb past) (sumIn VbD past)
+      (base-shown (end .state .core .measured .counters .vb) (sumIn Vb past) (sums Vb xs time supcode custcode archive log audit))
+      (base-shown (end .state .core .measured .counters .vbd) (sumIn VbD past) (sums VbD xs time supcode custcode archive log audit))

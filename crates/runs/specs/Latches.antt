@@ -3,10 +3,13 @@
 -- Assumes nothing.
 use mathlib.Core.Bool.{Bool, false, not, cond, _&&_, _||_}
 use mathlib.Core.List.{List, [], _∷_}
+use lib.Dec.{eqb}
 use Rattle.state.specs.declared.Alarms.{Alarms}
+use Rattle.state.specs.State.{noAlarm}
 use Rattle.cycle.specs.Cycle.{alarmsFor}
-use Rattle.runs.specs.Run.{Step, Cycle, Turn, Clear, Ask, Call, Commit, onCycle, World, step}
-use Rattle.runs.specs.Sums.{accepted}
+use Rattle.runs.specs.Run.{Step, Cycle, Turn, Clear, Ask, Call, Commit, onCycle, World, numberOf, step}
+use Rattle.runs.specs.History.{History, done}
+use Rattle.runs.specs.InForce.{settingsIn}
 
 pub data Alarm : Type 0 where
   p t k : Alarm
@@ -23,18 +26,32 @@ present a w = flagOf a (w .state .core .measured .alarms)
 abbrev pub latch : Alarm → World → Bool
 latch a w = flagOf a (w .state .core .latches)
 
--- ---- present: as the last accepted cycle found it
+-- ---- present: as the last accepted cycle found it, and none before the first
 
--- what an accepted step finds, f being what was found before it
-abbrev pub foundBy : Step → World → Alarms → Alarms
-foundBy x w f = onCycle (λ r. alarmsFor (w .state .core .settings) r) f x
+abbrev pub foundIn : History → Alarms
+foundIn [] = noAlarm
+foundIn (x ∷ past) = cond (done x) (onCycle (λ r. alarmsFor (settingsIn past) r) (foundIn past) (x .0)) (foundIn past)
 
--- what the last accepted cycle of a run found, and f where there was none
-abbrev pub lastFound : List Step → World → Alarms → Alarms
-lastFound [] w f = f
-lastFound (x ∷ xs) w f = lastFound xs ((step x w) .0) (cond (accepted x w) (foundBy x w f) f)
+-- ---- latched: set when present, and stays until a Clear finds the alarm not present
 
--- ---- latched
+-- the latch after an accepted step, and before it l
+abbrev pub latchAfter : Alarm → Step → History → Bool → Bool
+latchAfter a (Cycle r) past l = flagOf a (alarmsFor (settingsIn past) r) || l
+latchAfter a (Turn turn) past l = l
+latchAfter a Clear past l = l && flagOf a (foundIn past)
+latchAfter a (Ask question) past l = l
+latchAfter a (Call door act) past l = l
+latchAfter a (Commit door) past l = l
+
+abbrev pub latchIn : Alarm → History → Bool
+latchIn a [] = false
+latchIn a (x ∷ past) = cond (done x) (latchAfter a (x .0) past (latchIn a past)) (latchIn a past)
+
+-- ---- from any world, where no history is known
+
+-- a step is accepted where its number is 0
+abbrev pub accepted : Step → World → Bool
+accepted x w = eqb (numberOf ((step x w) .1)) 0
 
 -- a cycle finds the alarm present
 abbrev pub findsPresent : Alarm → Step → World → Bool
@@ -53,8 +70,3 @@ clearsAbsent a (Commit door) w = false
 abbrev pub clearedIn : Alarm → List Step → World → Bool
 clearedIn a [] w = false
 clearedIn a (x ∷ xs) w = accepted x w && clearsAbsent a x w || clearedIn a xs ((step x w) .0)
-
--- a cycle of a run was accepted that found the alarm present, and no Clear after it that found it not present
-abbrev pub latchedIn : Alarm → List Step → World → Bool
-latchedIn a [] w = false
-latchedIn a (x ∷ xs) w = accepted x w && findsPresent a x w && not (clearedIn a xs ((step x w) .0)) || latchedIn a xs ((step x w) .0)

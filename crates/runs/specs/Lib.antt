@@ -6,5 +6,6 @@ pub mod Sums
 pub mod Lines
 pub mod History
 pub mod Stale
+pub mod InForce
 pub mod Open
 pub mod Latches

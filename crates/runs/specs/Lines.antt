@@ -1,8 +1,10 @@
--- What a run writes into the three stores, line by line. Document 01, "Books" and "One measuring cycle", 1 and 7.
+-- What a run writes into the three stores, line by line, said of the history alone. Document 01, "Books" and "One measuring cycle", 1 and 7.
 -- Assumes nothing.
 use Prim.Native.Nat.{ℕ, zero, suc, _+_, _%_}
 use mathlib.Core.Bool.{cond}
 use mathlib.Core.List.{List, [], _∷_, _++_}
+use lib.ListN.{length}
+use Rattle.units.specs.Units.{litresShown, baseShown}
 use Rattle.calendar.specs.Calendar.{monthOf}
 use Rattle.ring.specs.declared.Ring.{Ring}
 use Rattle.ring.specs.Ring.{archiveLines, logLines, auditLines, numbers}
@@ -11,26 +13,39 @@ use Rattle.books.specs.declared.ArchiveLine.{ArchiveLine}
 use Rattle.books.specs.declared.LogLine.{LogLine}
 use Rattle.books.specs.declared.AuditLine.{AuditLine}
 use Rattle.books.specs.Books.{noArchive, noLog, noAudit}
-use Rattle.notes.specs.Notes.{logged}
+use Rattle.state.specs.declared.Counters.{Counters}
+use Rattle.notes.specs.Notes.{numbered}
 use Rattle.cycle.specs.Cycle.{monthLines, alarmsFor, changes}
 use Rattle.panel.specs.Panel.{turnCodes}
-use Rattle.doors.specs.Doors.{commitLines}
-use Rattle.runs.specs.Run.{Step, Cycle, Turn, Clear, Ask, Call, Commit, onCycle, World, step, lockOf, opensIt}
-use Rattle.runs.specs.Sums.{accepted}
+use Rattle.runs.specs.Run.{Step, Cycle, Turn, Clear, Ask, Call, Commit, onCycle, World, lockOf, opensIt}
+use Rattle.runs.specs.History.{History, done, lastTime}
+use Rattle.runs.specs.InForce.{settingsIn}
+use Rattle.runs.specs.Locks.{lockAt}
+use Rattle.runs.specs.Sums.{Vm, VmD, Vb, VbD, sumIn}
+use Rattle.runs.specs.Latches.{foundIn}
 
--- A store: how many lines it can hold, what the state says of it, what is in it, and which lines an accepted step writes, oldest first.
+-- A store: how many lines it can hold, what the state says of it, what is in it, and which lines an accepted step writes, oldest first. They go by
+-- the time of the start, the number of lines written before, the step, and the history before it.
 pub record Shelf : Type 1 where
   pub Line : Type 0
   pub blank : Line
   pub size : ℕ
   pub ring : World → Ring
   pub store : World → List Line
-  pub writes : Step → World → List Line
+  pub lines : ℕ → ℕ → Step → History → List Line
 
--- ---- the archive: an accepted cycle writes a line for every month crossed
+-- ---- the archive: an accepted cycle writes a line for every month crossed, with the counters as they stood before it
 
-abbrev pub archiveBy : Step → World → List ArchiveLine
-archiveBy x w = onCycle (λ r. monthLines (w .state .core .measured .counters) (w .state .core .measured .month) (monthOf (r .time))) [] x
+unfoldable pub countersIn : History → Counters
+countersIn past = record {
+  vm = litresShown (sumIn Vm past);
+  vmd = litresShown (sumIn VmD past);
+  vb = baseShown (sumIn Vb past);
+  vbd = baseShown (sumIn VbD past);
+}
+
+abbrev pub archiveFor : ℕ → ℕ → Step → History → List ArchiveLine
+archiveFor t n x past = onCycle (λ r. monthLines (countersIn past) (monthOf (lastTime t past)) (monthOf (r .time))) [] x
 
 abbrev pub archiveShelf : Shelf
 archiveShelf = record {
@@ -39,18 +54,18 @@ archiveShelf = record {
   size = archiveLines;
   ring = λ w. w .state .core .stores .archive;
   store = λ w. w .archive;
-  writes = archiveBy;
+  lines = archiveFor;
 }
 
 -- ---- the logbook: the alarms that came or went, at the cycle's own time; a lock that opened or shut, at the time of the last cycle
 
-abbrev pub logBy : Step → World → List LogLine
-logBy (Cycle r) w = logged (w .state .core .stores .log) (r .time) (changes (w .state .core .measured .alarms) (alarmsFor (w .state .core .settings) r))
-logBy (Turn turn) w = logged (w .state .core .stores .log) (w .state .core .measured .time) (turnCodes (w .state .core .locks) (lockOf turn) (opensIt turn))
-logBy Clear w = []
-logBy (Ask question) w = []
-logBy (Call door act) w = []
-logBy (Commit door) w = []
+abbrev pub logFor : ℕ → ℕ → Step → History → List LogLine
+logFor t n (Cycle r) past = numbered n (r .time) (changes (foundIn past) (alarmsFor (settingsIn past) r))
+logFor t n (Turn turn) past = numbered n (lastTime t past) (turnCodes (lockAt (lockOf turn) past) (lockOf turn) (opensIt turn))
+logFor t n Clear past = []
+logFor t n (Ask question) past = []
+logFor t n (Call door act) past = []
+logFor t n (Commit door) past = []
 
 abbrev pub logShelf : Shelf
 logShelf = record {
@@ -59,35 +74,17 @@ logShelf = record {
   size = logLines;
   ring = λ w. w .state .core .stores .log .ring;
   store = λ w. w .log;
-  writes = logBy;
+  lines = logFor;
 }
 
 -- ---- the audit trail: one line for each setting that a commit puts in force
 
-abbrev pub auditBy : Step → World → List AuditLine
-auditBy (Cycle r) w = []
-auditBy (Turn turn) w = []
-auditBy Clear w = []
-auditBy (Ask question) w = []
-auditBy (Call door act) w = []
-auditBy (Commit door) w = commitLines (w .state) door
-
-abbrev pub auditShelf : Shelf
-auditShelf = record {
-  Line = AuditLine;
-  blank = noAudit;
-  size = auditLines;
-  ring = λ w. w .state .core .stores .audit .ring;
-  store = λ w. w .audit;
-  writes = auditBy;
-}
-
 -- ---- a run
 
--- the lines that a run writes, oldest first
-abbrev pub wrote : (S : Shelf) → List Step → World → List (S .Line)
-wrote S [] w = []
-wrote S (x ∷ xs) w = cond (accepted x w) (S .writes x w) [] ++ wrote S xs ((step x w) .0)
+-- the lines that a run wrote, oldest first; t is the time of the start
+abbrev pub wroteIn : (S : Shelf) → ℕ → History → List (S .Line)
+wroteIn S t [] = []
+wroteIn S t (x ∷ past) = wroteIn S t past ++ cond (done x) (S .lines t (length (wroteIn S t past)) (x .0) past) []
 
 -- the lines that a store holds, newest first
 abbrev pub holds : (S : Shelf) → World → List (S .Line)

@@ -6,17 +6,19 @@ use mathlib.Core.Bool.{Bool, false, cond, _&&_, _||_}
 use mathlib.Core.List.{[], _∷_}
 use lib.Dec.{eqb}
 use Rattle.ground.specs.Below.{anyBelow}
+use Rattle.settings.specs.declared.Value.{Value}
 use Rattle.settings.specs.Settings.{settingCount}
 use Rattle.runs.specs.Run.{Step, Cycle, Turn, Clear, Ask, Call, Commit, Begin, Read, Write, Abandon, Reply}
 use Rattle.runs.specs.History.{History, done}
 
 -- ---- what was done
 
--- the steps that bear on it: door, then setting
+-- what bears on the settings: the door, then the setting and the value written
 pub data Deed : Type 0 where
   nothing : Deed
   begins commits : ℕ → Deed
-  reads writes : ℕ → ℕ → Deed
+  reads : ℕ → ℕ → Deed
+  writes : ℕ → ℕ → Value → Deed
 
 abbrev pub deedOf : Step → Deed
 deedOf (Cycle r) = nothing
@@ -27,7 +29,7 @@ deedOf (Call door Begin) = begins door
 deedOf (Call door Abandon) = nothing
 deedOf (Commit door) = commits door
 deedOf (Call door (Read setting)) = reads door setting
-deedOf (Call door (Write setting v)) = writes door setting
+deedOf (Call door (Write setting v)) = writes door setting v
 
 -- a step that was refused did nothing
 abbrev pub deed : Step × Reply → Deed
@@ -38,28 +40,28 @@ beginsAt door nothing = false
 beginsAt door (begins d) = eqb d door
 beginsAt door (commits d) = false
 beginsAt door (reads d k) = false
-beginsAt door (writes d k) = false
+beginsAt door (writes d k v) = false
 
 abbrev pub commitsAt : ℕ → Deed → Bool
 commitsAt door nothing = false
 commitsAt door (begins d) = false
 commitsAt door (commits d) = eqb d door
 commitsAt door (reads d k) = false
-commitsAt door (writes d k) = false
+commitsAt door (writes d k v) = false
 
 abbrev pub readsAt : ℕ → ℕ → Deed → Bool
 readsAt door setting nothing = false
 readsAt door setting (begins d) = false
 readsAt door setting (commits d) = false
 readsAt door setting (reads d k) = eqb d door && eqb k setting
-readsAt door setting (writes d k) = false
+readsAt door setting (writes d k v) = false
 
 abbrev pub writesAt : ℕ → ℕ → Deed → Bool
 writesAt door setting nothing = false
 writesAt door setting (begins d) = false
 writesAt door setting (commits d) = false
 writesAt door setting (reads d k) = false
-writesAt door setting (writes d k) = eqb d door && eqb k setting
+writesAt door setting (writes d k v) = eqb d door && eqb k setting
 
 -- ---- the session at a door
 

@@ -1,16 +1,17 @@
--- What a run puts on the counters. Document 01, "One measuring cycle", 6: the amounts are those of the accepted cycles, by the settings in
--- force and the alarms of each.
+-- What a run puts on the counters, said of the history alone. Document 01, "One measuring cycle", 6: the amounts are those of the accepted cycles,
+-- by the settings in force and the alarms of each.
 -- Assumes nothing.
 use Prim.Native.Nat.{ℕ, _+_, _*_}
 use mathlib.Core.Bool.{Bool, cond}
 use mathlib.Core.List.{List, [], _∷_}
-use lib.Dec.{eqb}
 use Rattle.units.specs.Units.{litresRollover, baseRollover, pulseLitres}
 use Rattle.settings.specs.declared.Setting.{Setting}
 use Rattle.state.specs.declared.Counters.{Counters}
 use Rattle.commands.specs.declared.Brought.{Brought}
 use Rattle.cycle.specs.Cycle.{naturalAt, alarmsFor, anyAlarm, factorFor}
-use Rattle.runs.specs.Run.{Step, Cycle, Turn, Clear, Ask, Call, Commit, World, numberOf, step}
+use Rattle.runs.specs.Run.{Step, onCycle, World, Reply}
+use Rattle.runs.specs.History.{History, done}
+use Rattle.runs.specs.InForce.{settingsIn}
 
 pub data Counter : Type 0 where
   Vm VmD Vb VbD : Counter
@@ -37,23 +38,14 @@ putBy VbD disturbed litres base = cond disturbed base 0
 abbrev pub amountOf : Counter → List Setting → Brought → ℕ
 amountOf c a r = putBy c (disturbedBy a r) (litresBy a r) (baseBy a r)
 
--- a step is accepted where its number is 0
-abbrev pub accepted : Step → World → Bool
-accepted x w = eqb (numberOf ((step x w) .1)) 0
+-- what a step put on a counter, by the history before it: an accepted cycle its amount, by the settings then in force, and anything else nothing
+abbrev pub putIn : Counter → Step × Reply → History → ℕ
+putIn c x past = onCycle (λ r. cond (done x) (amountOf c (settingsIn past) r) 0) 0 (x .0)
 
--- what a step puts on a counter: an accepted cycle its amount, and anything else nothing
-abbrev pub putsOn : Counter → Step → World → ℕ
-putsOn c (Cycle r) w = cond (accepted (Cycle r) w) (amountOf c (w .state .core .settings) r) 0
-putsOn c (Turn turn) w = 0
-putsOn c Clear w = 0
-putsOn c (Ask question) w = 0
-putsOn c (Call door act) w = 0
-putsOn c (Commit door) w = 0
-
--- the sum over a run
-abbrev pub sumOn : Counter → List Step → World → ℕ
-sumOn c [] w = 0
-sumOn c (x ∷ xs) w = putsOn c x w + sumOn c xs ((step x w) .0)
+-- the sum over a history
+abbrev pub sumIn : Counter → History → ℕ
+sumIn c [] = 0
+sumIn c (x ∷ past) = sumIn c past + putIn c x past
 
 -- what a counter shows, and where it rolls over
 abbrev pub shownBy : Counter → Counters → ℕ

@@ -23,7 +23,7 @@ use Rattle.desk.specs.Desk as desk
 use Rattle.runs.specs.Run.{Commit, numberOf, corrector, closed, started}
 use Rattle.runs.specs.Exactly.{earlier}
 use Rattle.runs.specs.Rows.{rowsOf}
-use Rattle.runs.specs.Sums.{Counter, sumOn, shows, rollover}
+use Rattle.runs.specs.Sums.{Counter, sumIn, shows, rollover}
 use Rattle.runs.specs.Lines.{archiveShelf, logShelf, auditShelf, wrote, holds}
 use Rattle.runs.specs.History.{history}
 use Rattle.runs.specs.Stale.{stale}
@@ -68,8 +68,8 @@ module _ (bs : List Block) (time supcode custcode : ℕ) where
       rw (block-by-block bs fresh) (of-a-run P h last (always-begun (linesOf bs) (worldIn fresh) (fresh-begun time supcode custcode)))
 
   -- THE SUMS: each counter of the desk shows, under its rollover, the sum of what the accepted cycles since the last start put on it
-  pub served-sums : (c : Counter) → shows c back ≡ sumOn c (last .steps) (last .from) % rollover c
-  served-sums c = holds-of-the-desk (λ w xs v. shows c v ≡ sumOn c xs w % rollover c) (λ t a b archive log audit s xs. sums c xs t a b archive log audit)
+  pub served-sums : (c : Counter) → shows c back ≡ sumIn c (history (last .steps) (last .from)) % rollover c
+  served-sums c = holds-of-the-desk (λ w xs v. shows c v ≡ sumIn c (history xs w) % rollover c) (λ t a b archive log audit s xs. sums c xs t a b archive log audit)
 
   -- THE ORDER OF THE SESSIONS: the steps since the last start, rearranged session by session, have the answers that they had and lead to the desk's
   -- device, its unfinished sessions apart

@@ -16,7 +16,8 @@ use Rattle.desk.specs.Desk.{noInput, worldIn}
 use Rattle.desk.specs.Desk as desk
 use Rattle.lines.specs.Lines.{wholeLines}
 use Rattle.runs.specs.Run.{corrector, closed}
-use Rattle.runs.specs.Sums.{Counter, sumOn, shows, rollover}
+use Rattle.runs.specs.Sums.{Counter, sumIn, shows, rollover}
+use Rattle.runs.specs.History.{history}
 use Rattle.runs.specs.Lines.{archiveShelf, logShelf, auditShelf, wrote, holds}
 use Rattle.runs.proofs.Sums.{sums}
 use Rattle.runs.proofs.Lines.{archive-holds, log-holds, audit-holds}
@@ -63,8 +64,8 @@ module _ (rs : List Read) (enough : EnoughAfter rs) (time supcode custcode : ℕ
   spoken-holds P h = rw (read-by-read rs fresh enough) (holds-of-lines (wholeLines (allRead rs)) time supcode custcode P h)
 
   -- THE SUMS: each counter shows, under its rollover, the sum of what the accepted cycles since the last start put on it
-  pub spoken-sums : (c : Counter) → shows c back ≡ sumOn c (last .steps) (last .from) % rollover c
-  spoken-sums c = spoken-holds (λ w xs v. shows c v ≡ sumOn c xs w % rollover c) (λ t a b archive log audit s xs. sums c xs t a b archive log audit)
+  pub spoken-sums : (c : Counter) → shows c back ≡ sumIn c (history (last .steps) (last .from)) % rollover c
+  spoken-sums c = spoken-holds (λ w xs v. shows c v ≡ sumIn c (history xs w) % rollover c) (λ t a b archive log audit s xs. sums c xs t a b archive log audit)
 
   -- THE ORDER OF THE SESSIONS: the steps since the last start, rearranged session by session, have the answers that they had and lead to this device, its
   -- unfinished sessions apart
