@@ -16,4 +16,5 @@ pub mod Crossed
 pub mod Stale
 pub mod Open
 pub mod Times
+pub mod Locks
 pub mod Latches

@@ -7,4 +7,5 @@ pub mod Lines
 pub mod History
 pub mod Stale
 pub mod Open
+pub mod Locks
 pub mod Latches
