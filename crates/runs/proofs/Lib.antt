@@ -11,6 +11,8 @@ pub mod Sums
 pub mod Totals
 pub mod Lines
 pub mod Newest
+pub mod Never
+pub mod Given
 pub mod Numbers
 pub mod Crossed
 pub mod Stale

@@ -8,4 +8,5 @@ pub mod History
 pub mod Stale
 pub mod Open
 pub mod Locks
+pub mod Never
 pub mod Latches
