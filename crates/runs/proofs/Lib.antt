@@ -9,6 +9,8 @@ pub mod Calls
 pub mod Sessions
 pub mod Lines
 pub mod Newest
+pub mod Never
+pub mod Given
 pub mod Numbers
 pub mod Crossed
 pub mod Stale
@@ -18,4 +20,5 @@ pub mod Seen
 pub mod Sums
 pub mod Totals
 pub mod Times
+pub mod Locks
 pub mod Latches

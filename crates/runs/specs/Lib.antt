@@ -8,4 +8,6 @@ pub mod History
 pub mod Stale
 pub mod InForce
 pub mod Open
+pub mod Locks
+pub mod Never
 pub mod Latches

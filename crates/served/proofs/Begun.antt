@@ -2,37 +2,17 @@
 -- step changes the length of a store.
 -- Assumes nothing.
 use Prim.Native.Nat.{ℕ}
-use mathlib.Core.Path.{_≡_, refl, ap, _∙_}
+use mathlib.Core.Path.{refl}
 use mathlib.Core.List.{List, [], _∷_}
-use lib.ListN.{length, length-replicate}
-use Rattle.order.specs.Order.{run}
+use lib.ListN.{length-replicate}
 use Rattle.ring.specs.Ring.{archiveLines, logLines, auditLines}
-use Rattle.ring.proofs.Stores.{written-length}
 use Rattle.books.specs.Books.{noArchive, noLog, noAudit}
-use Rattle.commands.specs.declared.Command.{Command}
 use Rattle.commands.specs.declared.Entry.{Entry}
 use Rattle.commands.specs.Answers.{World}
-use Rattle.steps.specs.Step.{step}
 use Rattle.desk.specs.Desk.{worldIn}
 use Rattle.desk.specs.Desk as desk
-use Rattle.runs.specs.Run.{corrector, Body}
-use Rattle.runs.specs.Lines.{archiveBy, logBy, auditBy}
-use Rattle.runs.proofs.Effects.{after, leaves}
-use Rattle.runs.proofs.Lines.{archive-stores, log-stores, audit-stores}
-use Rattle.served.specs.Served.{Run, endOf, Part, parts, firstRun, next, lastOf, lastRun, Sized, Begun}
-
--- ---- no step changes the length of a store
-
-step-sized : (x : Command) (w : World) → Sized w → Sized ((step x w) .0)
-step-sized x w s = record {
-  archive = leaves (λ (b : Body). length (b .archive)) x w (ap length (archive-stores x w) ∙ written-length archiveLines (w .state .core .stores .archive) (w .archive) (archiveBy x w)) ∙ s .archive;
-  log = leaves (λ (b : Body). length (b .log)) x w (ap length (log-stores x w) ∙ written-length logLines (w .state .core .stores .log .ring) (w .log) (logBy x w)) ∙ s .log;
-  audit = leaves (λ (b : Body). length (b .audit)) x w (ap length (audit-stores x w) ∙ written-length auditLines (w .state .core .stores .audit .ring) (w .audit) (auditBy x w)) ∙ s .audit;
-}
-
-run-sized : (xs : List Command) (w : World) → Sized w → Sized ((run corrector xs w) .1)
-run-sized [] w s = s
-run-sized (x ∷ xs) w s = run-sized xs ((step x w) .0) (step-sized x w s)
+use Rattle.runs.proofs.Never.{run-sized}
+use Rattle.served.specs.Served.{Run, endOf, Part, parts, firstRun, next, lastOf, lastRun, Begun}
 
 -- ---- every run began with a start
 

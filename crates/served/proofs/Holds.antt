@@ -27,11 +27,13 @@ use Rattle.runs.specs.Sums.{Counter, sumIn, shows, rollover}
 use Rattle.runs.specs.Lines.{archiveShelf, logShelf, auditShelf, wrote, holds}
 use Rattle.runs.specs.History.{history}
 use Rattle.runs.specs.Stale.{stale}
+use Rattle.runs.specs.Never.{laterRows, metIn}
 use Rattle.runs.proofs.Keeps.{always-whole}
 use Rattle.runs.proofs.Sums.{sums}
 use Rattle.runs.proofs.Lines.{archive-holds, log-holds, audit-holds}
 use Rattle.runs.proofs.Stale.{stale-exactly}
 use Rattle.runs.proofs.Sessions.{sessions-in-order}
+use Rattle.runs.proofs.Never.{never-met, never-one, earlier-without-one}
 use Rattle.served.specs.Served.{Run, endOf, lastRun, Block, linesOf, servedAll, Sized, Begun}
 use Rattle.served.proofs.Served.{block-by-block}
 use Rattle.served.proofs.Begun.{always-begun, fresh-begun}
@@ -106,3 +108,15 @@ module _ (bs : List Block) (time supcode custcode : ℕ) where
       holds-of-the-desk
       (λ w xs v. (numberOf ((step (Commit door) v) .1) ≡ 11) ↔ ((earlier 11 (rowsOf (Commit door) v) ≡ false) × (stale door (history xs w) ≡ true)))
       (λ t a b archive log audit s xs. stale-exactly xs t a b archive log audit door)
+
+  -- REFUSAL 1 IS NEVER MET: no command since the last start was answered with it, and none that is put to the desk now would be
+  pub served-never-one : (metIn 1 (history (last .steps) (last .from)) ≡ false) × ((c : Command) → numberOf ((step c back) .1) ≡ 1 → ⊥)
+  served-never-one =
+      holds-of-the-desk (λ w xs v. (metIn 1 (history xs w) ≡ false) × ((c : Command) → numberOf ((step c v) .1) ≡ 1 → ⊥))
+      (λ t a b archive log audit s xs. (never-met t a b archive log audit s xs, never-one t a b archive log audit s xs))
+
+  -- so that row 1 can be left out of "where no row before it applies"
+  pub served-without-one : (c : Command) (n : ℕ) → (1 ≡ n → ⊥) → earlier n (rowsOf c back) ≡ earlier n (laterRows c back)
+  served-without-one =
+      holds-of-the-desk (λ w xs v. (c : Command) (n : ℕ) → (1 ≡ n → ⊥) → earlier n (rowsOf c v) ≡ earlier n (laterRows c v))
+      (λ t a b archive log audit s xs. earlier-without-one t a b archive log audit s xs)

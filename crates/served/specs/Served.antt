@@ -6,7 +6,6 @@ use mathlib.Core.Path.{_≡_}
 use mathlib.Core.List.{List, [], _∷_, _++_, map}
 use lib.ListN.{length, replicate, take}
 use Rattle.order.specs.Order.{run}
-use Rattle.ring.specs.Ring.{archiveLines, logLines, auditLines}
 use Rattle.commands.specs.declared.Command.{Command}
 use Rattle.commands.specs.declared.Reply.{Reply}
 use Rattle.commands.specs.declared.Entry.{Entry}
@@ -21,6 +20,7 @@ use Rattle.desk.specs.declared.Output.{Output}
 use Rattle.desk.specs.declared.Served.{Served}
 use Rattle.desk.specs.Desk.{block, noOutput, worldIn, deskOf, served}
 use Rattle.runs.specs.Run.{corrector, started}
+pub use Rattle.runs.specs.Never.{Sized}
 
 -- ---- a run
 
@@ -135,13 +135,7 @@ servedAll (b ∷ bs) d =
     let s = served d (b .inputs) (b .count) in
     (take (length (linesIn b)) (s .outputs) ++ (servedAll bs (s .desk)) .0, (servedAll bs (s .desk)) .1)
 
--- ---- a device that was just started
-
--- the three stores have their exact lengths
-pub record Sized (w : World) : Type 0 where
-  pub archive : length (w .archive) ≡ archiveLines
-  pub log : length (w .log) ≡ logLines
-  pub audit : length (w .audit) ≡ auditLines
+-- ---- a device that was just started, over stores of their exact lengths
 
 pub record Begun (w : World) : Type 0 where
   pub time : ℕ
