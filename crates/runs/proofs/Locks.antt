@@ -63,7 +63,7 @@ locks-by x w k false = ap locksOf (refused-body x w k)
 step-locks : (x : Step) (w : World) → (step x w) .0 .state .core .locks ≡ cond (eqb (numberOf ((step x w) .1)) 0) (locksBy x (w .state .core .locks)) (w .state .core .locks)
 step-locks x w = let k = firstOf (rowsOf x w) in rw (number-is x w, world-is x w) (locks-by x w k (eqb k 0))
 
--- and after a step as the history has it
+-- what the history says after one step more
 done-said : (a b : ℕ) (x : Step) (past : History) → locksBy x (locksIn a b past)
     ≡ record { cal = lockBy 1 x (lockAt 1 past); sup = lockBy 2 x (lockAt 2 past); cust = lockBy 3 x (lockAt 3 past); supcode = a; custcode = b }
 unfolding withLock
@@ -105,7 +105,7 @@ each-lock P p q r (suc (suc (suc zero))) e = r
 each-lock P p q r (suc (suc (suc (suc n)))) e =
     absurd (omega (arith, ltb-false 3 (suc (suc (suc (suc n)))) (or-false-right (ltb (suc (suc (suc (suc n)))) 1) (ltb 3 (suc (suc (suc (suc n))))) e)))
 
--- where it stands
+-- where the lock stands by the history
 said-in : (a b : ℕ) (past : History) (lock : ℕ) → noLock lock ≡ false → lockIn (locksIn a b past) lock ≡ lockAt lock past
 unfolding lockIn
 said-in a b past = each-lock (λ lock. lockIn (locksIn a b past) lock ≡ lockAt lock past) refl refl refl
@@ -119,7 +119,7 @@ code-wrong : (a b : ℕ) (past : History) (code lock : ℕ) → noLock lock ≡ 
 unfolding rightCode
 code-wrong a b past code = each-lock (λ lock. not (rightCode (locksIn a b past) lock code) ≡ wrongCode a b lock code) refl (or-none (not (eqb code a))) refl
 
--- an accepted turn is of such a lock
+-- the lock of an accepted turn is 1, 2 or 3
 turned-lock : (turn : LockTurn) (w : World) → accepted (Turn turn) w ≡ true → noLock (lockOf turn) ≡ false
 turned-lock (Open lock code) w e =
     silent (rowsOf (Turn (Open lock code)) w) refl (sym (number-is (Turn (Open lock code)) w) ∙ eqb-true (numberOf ((step (Turn (Open lock code)) w) .1)) 0 e) 3
@@ -141,7 +141,7 @@ unfolding logged numbered bookAfter
 next-line n time code b true e = rw (e, mod-mod n numbers)
 next-line n time code b false e = refl
 
--- so many lines does the state tell of at the end of a run
+-- at the end of a run the state tells of as many lines more as the run wrote
 module _ (S : Shelf) (K : Kept S) where
   told-by : (x : Step) (w : World) (n k : ℕ) (t : Bool) → K .Tells n (bodyOf w)
       → K .Tells (n + length (cond t (S .writes x w) [])) (bodyOf (cond t (after x w) (refusedBy x w k)))
@@ -177,6 +177,10 @@ module _ (xs : List Step) (time supcode custcode : ℕ) (archive : List ArchiveL
   -- THE LOCKS STAND WHERE THE HISTORY SAYS, and their codes are the start's
   pub locks-exactly : end .state .core .locks ≡ said
   locks-exactly = run-locks (startCode time supcode) (startCode time custcode) xs start [] (start-locks time supcode custcode (leb endOfTime time) refl)
+
+  -- so each of the three is open exactly if the last accepted turn of it opened it
+  pub lock-exactly : (lock : ℕ) → noLock lock ≡ false → lockIn (end .state .core .locks) lock ≡ lockAt lock past
+  lock-exactly lock e = rw locks-exactly (said-in (startCode time supcode) (startCode time custcode) past lock e)
 
   -- OPEN IS REFUSED BY 8 EXACTLY WHEN its lock is 2 or 3 and the code is not the start's, where 1 and 3 do not come first
   pub wrong-code-exactly : (lock code : ℕ)

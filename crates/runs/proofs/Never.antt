@@ -127,22 +127,22 @@ module _ (time supcode custcode : ℕ) (archive : List ArchiveLine) (log : List 
   never-met = none-met xs start [] from-start refl
 
   module _ (x : Step) where
-    -- the number of a step is that of its rows after the first
+    -- its number is that of its rows after the first
     pub number-without-one : numberOf ((step x end) .1) ≡ firstOf (laterRows x end)
     number-without-one = number-later end ready x
 
-    -- NOR IS ANY STEP AFTER IT
+    -- NOR WOULD ANY STEP BE THAT CAME NEXT
     pub never-one : numberOf ((step x end) .1) ≡ 1 → ⊥
     never-one = not-one end ready x
 
-    -- THE NUMBER IS n EXACTLY WHEN ROW n APPLIES, AND NO ROW BETWEEN ROW 1 AND IT
+    -- THE NUMBER IS n EXACTLY WHEN ROW n APPLIES AND NO ROW BEFORE IT, row 1 left out
     pub refused-without-one : (n : ℕ) → 0 < n → (numberOf ((step x end) .1) ≡ n) ↔ exact.Given n (laterRows x end)
     refused-without-one n l = rw (number-later end ready x) (exactly (laterRows x end) (orderly-later end ready x) n l)
 
-    -- IT IS 0 EXACTLY WHEN NO ROW AFTER ROW 1 APPLIES
+    -- IT IS 0 EXACTLY WHEN NO ROW APPLIES, row 1 left out
     pub accepted-without-one : (numberOf ((step x end) .1) ≡ 0) ↔ ((n : ℕ) → applies n (laterRows x end) ≡ false)
     accepted-without-one = rw (number-later end ready x) (done-exactly (laterRows x end) (orderly-later end ready x))
 
-    -- SO WHAT "where no row before it applies" says of all the rows, it says of those after row 1
+    -- WHETHER A ROW BEFORE ROW n APPLIES is the same with row 1 and without it; so any theorem that says `earlier n (rowsOf ..)` can be read without row 1
     pub earlier-without-one : (n : ℕ) → (1 ≡ n → ⊥) → earlier n (rowsOf x end) ≡ earlier n (laterRows x end)
     earlier-without-one n other = ap (earlier n) (first-row end ready x) ∙ rw (ne-eqb 1 n other)

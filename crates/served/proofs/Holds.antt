@@ -1,13 +1,14 @@
--- What is proved of every run is so of the desk. A desk is handed out fresh, and lines are put to it in blocks, in whatever way they fall into these,
--- with starts, empty and unknown lines among them. `back` is then the device with its stores as the last block handed it back, and `last` the run
--- that is under way: it began with the last start, and its steps are the commands since.
+-- What is proved of every run is so of the desk. Lines are put to a fresh desk in blocks; starts, empty and unknown lines may be among them, and it does not
+-- matter where one block ends and the next begins. `back` is the device with its stores as the last block handed it back. `last` is the run that is under
+-- way: it began with the last start, and its steps are the commands since.
 -- Assumes nothing.
 use Prim.Native.Nat.{ℕ, _%_}
 use mathlib.Core.Path.{_≡_, sym, subst}
 use mathlib.Core.Logic.{_↔_}
 use mathlib.Core.Bool.{true, false}
-use mathlib.Core.List.{List, reverse}
-use lib.ListN.{take}
+use mathlib.Core.List.{List, _∷_, _++_, reverse}
+use native.Mathlib.Omega.{arith}
+use lib.ListN.{length, take, getD}
 use Rattle.order.specs.Order.{run, serial, steps, answers}
 use Rattle.ring.specs.Ring.{archiveLines, logLines, auditLines}
 use Rattle.books.specs.declared.ArchiveLine.{ArchiveLine}
@@ -15,10 +16,14 @@ use Rattle.books.specs.declared.LogLine.{LogLine}
 use Rattle.books.specs.declared.AuditLine.{AuditLine}
 use Rattle.state.specs.State.{wholeB}
 use Rattle.commands.specs.declared.Command.{Command}
+use Rattle.commands.specs.declared.Reply.{Reply}
+use Rattle.commands.specs.declared.Entry.{Entry}
+use Rattle.commands.specs.declared.Entry.the-variants as entry
+use Rattle.commands.specs.declared.Echo.the-variants as echo
 use Rattle.commands.specs.Answers.{World}
 use Rattle.steps.specs.Step.{step}
 use Rattle.desk.specs.declared.Desk.{Desk}
-use Rattle.desk.specs.Desk.{worldIn}
+use Rattle.desk.specs.Desk.{noOutput, worldIn}
 use Rattle.desk.specs.Desk as desk
 use Rattle.runs.specs.Run.{Commit, numberOf, corrector, closed, started}
 use Rattle.runs.specs.Exactly.{earlier}
@@ -28,17 +33,19 @@ use Rattle.runs.specs.Lines.{archiveShelf, logShelf, auditShelf, wrote, holds}
 use Rattle.runs.specs.History.{history}
 use Rattle.runs.specs.Stale.{stale}
 use Rattle.runs.specs.Never.{laterRows, metIn}
+use Rattle.runs.proofs.Effects.{refused-exactly}
 use Rattle.runs.proofs.Keeps.{always-whole}
 use Rattle.runs.proofs.Sums.{sums}
 use Rattle.runs.proofs.Lines.{archive-holds, log-holds, audit-holds}
 use Rattle.runs.proofs.Stale.{stale-exactly}
 use Rattle.runs.proofs.Sessions.{sessions-in-order}
 use Rattle.runs.proofs.Never.{never-met, never-one, earlier-without-one}
-use Rattle.served.specs.Served.{Run, endOf, lastRun, Block, linesOf, servedAll, Sized, Begun}
+use Rattle.served.specs.Served.{Run, endOf, lastRun, output, Block, linesOf, servedAll, Sized, Begun}
 use Rattle.served.proofs.Served.{block-by-block}
 use Rattle.served.proofs.Begun.{always-begun, fresh-begun}
+use Rattle.served.proofs.Refused.{served-refused}
 
--- P of the world in which a run began, its steps and the world at its end: it holds of every run from a start, over stores of their exact lengths
+-- P speaks of the world in which a run began, of its steps and of the world at its end; it holds of every run from a start, over stores of their exact lengths
 abbrev pub OfEveryRun : (World → List Command → World → Type 0) → Type 0
 OfEveryRun P =
     (time supcode custcode : ℕ) (archive : List ArchiveLine) (log : List LogLine) (audit : List AuditLine) → Sized (started time supcode custcode archive log audit)
@@ -120,3 +127,12 @@ module _ (bs : List Block) (time supcode custcode : ℕ) where
   served-without-one =
       holds-of-the-desk (λ w xs v. (c : Command) (n : ℕ) → (1 ≡ n → ⊥) → earlier n (rowsOf c v) ≡ earlier n (laterRows c v))
       (λ t a b archive log audit s xs. earlier-without-one t a b archive log audit s xs)
+
+  -- NO COMMAND AMONG THE LINES IS ANSWERED WITH 1, whatever runs and starts came before it
+  pub shown-never-one : (before after : List Entry) (c : Command) → linesOf bs ≡ before ++ (entry.Put c ∷ after) → (r : Reply)
+      → getD ((servedAll bs fresh) .0) (length before) noOutput ≡ output (echo.Said r) → numberOf r ≡ 1 → ⊥
+  shown-never-one before after c here r e q =
+      let g = served-refused fresh bs before after c here r e 1 (omega arith) .0 q in
+      of-a-run (λ w xs v. (x : Command) → numberOf ((step x v) .1) ≡ 1 → ⊥) (λ t a b archive log audit s xs. never-one t a b archive log audit s xs)
+      (lastRun before (worldIn fresh)) (always-begun before (worldIn fresh) (fresh-begun time supcode custcode))
+      c (refused-exactly c (endOf (lastRun before (worldIn fresh))) 1 (omega arith) .1 g)

@@ -3,6 +3,6 @@ pub mod Sitting
 pub mod Served
 pub mod Starts
 pub mod Begun
-pub mod Holds
 pub mod Refused
+pub mod Holds
 pub mod Contract

@@ -13,7 +13,7 @@ use Rattle.commands.specs.declared.Entry.the-variants as entry
 use Rattle.commands.specs.declared.Echo.{Echo}
 use Rattle.commands.specs.declared.Echo.the-variants as echo
 use Rattle.panel.specs.Panel.{startOf}
-use Rattle.commands.specs.Answers.{World, plain}
+use Rattle.commands.specs.Answers.{World}
 use Rattle.desk.specs.declared.Desk.{Desk}
 use Rattle.desk.specs.declared.Input.{Input}
 use Rattle.desk.specs.declared.Output.{Output}
@@ -76,7 +76,7 @@ unfoldable pub lastOf : Run → List Part → Run
 lastOf r [] = r
 lastOf r (p ∷ ps) = lastOf (next p r) ps
 
--- the answers of all the runs, with each start's number before those of its run
+-- the answers of all the runs; the number that a start is answered with comes before those of its run
 unfoldable pub answersOf : Run → List Part → List Reply
 answersOf r [] = answered r
 answersOf r (p ∷ ps) = answered r ++ (startOf (p .time) (p .supcode) (p .custcode) .reply ∷ answersOf (next p r) ps)
