@@ -22,7 +22,8 @@ use Rattle.asked.specs.Asked.{isHeld}
 use Rattle.asked.proofs.Laws.{held-exactly}
 use Rattle.commands.specs.declared.Question.the-variants as question
 use Rattle.runs.specs.Run.{Step, Question, Ask, World, numberOf, step, corrector, started}
-use Rattle.runs.specs.Lines.{Shelf, archiveShelf, logShelf, auditShelf, wrote, holds}
+use Rattle.runs.specs.Lines.{Shelf, archiveShelf, logShelf, auditShelf, wroteIn, holds}
+use Rattle.runs.specs.History.{history, startTime}
 use Rattle.runs.specs.Never.{Sized, laterRows}
 use Rattle.runs.proofs.Keeps.{always-whole}
 use Rattle.runs.proofs.Lines.{archive-holds, log-holds, audit-holds}
@@ -61,16 +62,16 @@ module _ (time supcode custcode : ℕ) (archive : List ArchiveLine) (log : List 
 
   -- line i, asked for by `ask i`, is given where i is below the smaller of the store's size and the number of lines written, and is refused by 13 where it is not
   abbrev pub GivenExactly : (S : Shelf) → (ℕ → Question) → Type 0
-  GivenExactly S ask = (i : ℕ) → numberOf ((step (Ask (ask i)) end) .1) ≡ cond (ltb i (min (S .size) (length (wrote S xs start)))) 0 13
+  GivenExactly S ask = (i : ℕ) → numberOf ((step (Ask (ask i)) end) .1) ≡ cond (ltb i (min (S .size) (length (wroteIn S (startTime time) (history xs start))))) 0 13
 
   given-by : (S : Shelf) (ask : ℕ → Question)
       → ((i : ℕ) → firstOf (laterRows (Ask (ask i)) end) ≡ cond (ltb i (S .ring end .held)) 0 13)
-      → holds S end ≡ take (S .size) (reverse (wrote S xs start))
+      → holds S end ≡ take (S .size) (reverse (wroteIn S (startTime time) (history xs start)))
       → GivenExactly S ask
   given-by S ask row h i =
       number-without-one time supcode custcode archive log audit sized xs (Ask (ask i))
       ∙ row i
-      ∙ ap (λ (n : ℕ). cond (ltb i n) 0 13) (held-count S end (wrote S xs start) h)
+      ∙ ap (λ (n : ℕ). cond (ltb i n) 0 13) (held-count S end (wroteIn S (startTime time) (history xs start)) h)
 
   sound : SoundCore (end .state .core)
   sound = whole-sound (end .state) (always-whole xs time supcode custcode archive log audit) .core

@@ -4,22 +4,20 @@
 use mathlib.Core.Path.{_≡_, refl, sym, ap, _∙_}
 use mathlib.Core.Bool.{Bool, true, false, not, cond, _||_, true≢false}
 use mathlib.Core.Logic.{_↔_}
-use mathlib.Core.List.{List, [], _∷_, reverseAux}
-use Prim.Native.Nat.{ℕ, zero, suc, _+_, _%_}
-use native.Mathlib.Nat.{add-zero, zero-add, mod-mod}
+use mathlib.Core.List.{List, [], _∷_}
+use Prim.Native.Nat.{ℕ, zero, suc, _+_}
 use native.Mathlib.Omega.{arith}
 use lib.Dec.{ltb, leb, eqb}
-use lib.ListN.{length, length-append}
-use borrow.Author.Tests.{eqb-true, ltb-false}
+use lib.ListN.{length}
+use borrow.Author.Tests.{ltb-false}
 use Rattle.ground.proofs.Flags.{or-false-left, or-false-right}
-use Rattle.order.specs.Order.{run, trace}
+use Rattle.order.specs.Order.{run}
 use Rattle.calendar.specs.Calendar.{endOfTime}
-use Rattle.ring.specs.declared.Book.{Book}
-use Rattle.ring.specs.Ring.{logLines, numbers, bookAfter}
+use Rattle.ring.specs.Ring.{logLines}
 use Rattle.books.specs.declared.ArchiveLine.{ArchiveLine}
 use Rattle.books.specs.declared.LogLine.{LogLine}
 use Rattle.books.specs.declared.AuditLine.{AuditLine}
-use Rattle.notes.specs.Notes.{keep, numbered, logged}
+use Rattle.notes.specs.Notes.{keep, numbered, logLine}
 use Rattle.state.specs.declared.Locks.{Locks}
 use Rattle.state.specs.State.{fresh, freshCore, shutLocks}
 use Rattle.state.specs.Card.{firstOf}
@@ -29,14 +27,12 @@ use Rattle.doors.specs.Doors.{placed, withSession, committedCore, committed}
 use Rattle.runs.specs.Exactly.{earlier}
 use Rattle.runs.specs.Rows.{rowsOf, unsound, refusedBy}
 use Rattle.runs.specs.Run.{Step, LockTurn, Open, Shut, Cycle, Turn, Clear, Ask, Call, Commit, Reply, World, lockOf, opensIt, numberOf, step, corrector, started, Body, bodyOf}
-use Rattle.runs.specs.Sums.{accepted}
-use Rattle.runs.specs.Lines.{Shelf, logBy, logShelf, wrote}
-use Rattle.runs.specs.History.{History, history, done, lastTime, startTime}
-use Rattle.runs.specs.Locks.{onTurn, lockBy, lockAt, locksIn, startCode, wrongCode, mayClear, moves, turnCode}
+use Rattle.runs.specs.Lines.{logFor}
+use Rattle.runs.specs.History.{History, history, done, lastTime}
+use Rattle.runs.specs.Locks.{onTurn, lockBy, lockAt, locksIn, startCode, wrongCode, mayClear, moves}
 use Rattle.runs.proofs.Exactly.{silent}
 use Rattle.runs.proofs.Effects.{after, number-is, world-is, refused-body, refused-when}
-use Rattle.runs.proofs.Lines.{Kept, logKept, begun-tells}
-use Rattle.runs.proofs.Times.{last-time}
+use Rattle.runs.proofs.InForce.{from-start}
 
 abbrev locksOf : Body → Locks
 locksOf b = b .core .locks
@@ -80,16 +76,14 @@ step-said a b x past false e = rw e
 
 -- ---- a run
 
-run-locks : (a b : ℕ) (xs : List Step) (w : World) (past : History) → w .state .core .locks ≡ locksIn a b past
-    → (run corrector xs w) .1 .state .core .locks ≡ locksIn a b (reverseAux (trace corrector xs w) past)
-run-locks a b [] w past e = e
-run-locks a b (x ∷ xs) w past e =
+pub locks-kept : (a b : ℕ) (x : Step) (w : World) (past : History) → w .state .core .locks ≡ locksIn a b past
+    → (step x w) .0 .state .core .locks ≡ locksIn a b ((x, (step x w) .1) ∷ past)
+locks-kept a b x w past e =
     let r = (step x w) .1 in
     let d = eqb (numberOf r) 0 in
-    let here = ap (λ (l : Locks). cond d (locksBy x l) l) e in
-    run-locks a b xs ((step x w) .0) ((x, r) ∷ past) (step-locks x w ∙ here ∙ step-said a b (x, r) past d refl)
+    step-locks x w ∙ ap (λ (l : Locks). cond d (locksBy x l) l) e ∙ step-said a b (x, r) past d refl
 
-start-locks : (time supcode custcode : ℕ) (t : Bool) → leb endOfTime time ≡ t
+pub start-locks : (time supcode custcode : ℕ) (t : Bool) → leb endOfTime time ≡ t
     → startOf time supcode custcode .state .core .locks ≡ locksIn (startCode time supcode) (startCode time custcode) []
 unfolding startOf startRefusal fresh freshCore shutLocks
 start-locks time supcode custcode true e = rw e
@@ -106,7 +100,7 @@ each-lock P p q r (suc (suc (suc (suc n)))) e =
     absurd (omega (arith, ltb-false 3 (suc (suc (suc (suc n)))) (or-false-right (ltb (suc (suc (suc (suc n)))) 1) (ltb 3 (suc (suc (suc (suc n))))) e)))
 
 -- where the lock stands by the history
-said-in : (a b : ℕ) (past : History) (lock : ℕ) → noLock lock ≡ false → lockIn (locksIn a b past) lock ≡ lockAt lock past
+pub said-in : (a b : ℕ) (past : History) (lock : ℕ) → noLock lock ≡ false → lockIn (locksIn a b past) lock ≡ lockAt lock past
 unfolding lockIn
 said-in a b past = each-lock (λ lock. lockIn (locksIn a b past) lock ≡ lockAt lock past) refl refl refl
 
@@ -120,44 +114,22 @@ unfolding rightCode
 code-wrong a b past code = each-lock (λ lock. not (rightCode (locksIn a b past) lock code) ≡ wrongCode a b lock code) refl (or-none (not (eqb code a))) refl
 
 -- the lock of an accepted turn is 1, 2 or 3
-turned-lock : (turn : LockTurn) (w : World) → accepted (Turn turn) w ≡ true → noLock (lockOf turn) ≡ false
-turned-lock (Open lock code) w e =
-    silent (rowsOf (Turn (Open lock code)) w) refl (sym (number-is (Turn (Open lock code)) w) ∙ eqb-true (numberOf ((step (Turn (Open lock code)) w) .1)) 0 e) 3
-turned-lock (Shut lock) w e =
-    silent (rowsOf (Turn (Shut lock)) w) refl (sym (number-is (Turn (Shut lock)) w) ∙ eqb-true (numberOf ((step (Turn (Shut lock)) w) .1)) 0 e) 3
+pub turned-lock : (turn : LockTurn) (w : World) → firstOf (rowsOf (Turn turn) w) ≡ 0 → noLock (lockOf turn) ≡ false
+turned-lock (Open lock code) w z = silent (rowsOf (Turn (Open lock code)) w) refl z 3
+turned-lock (Shut lock) w z = silent (rowsOf (Turn (Shut lock)) w) refl z 3
 
 -- ---- the line of a turn
 
-said-codes : (a b : ℕ) (past : History) (turn : LockTurn) → noLock (lockOf turn) ≡ false
-    → turnCodes (locksIn a b past) (lockOf turn) (opensIt turn) ≡ keep (moves turn past) (turnCode turn)
+one-line : (n time code : ℕ) (m : Bool) → length (numbered (logLine time) n (keep m code)) ≡ cond m 1 0
+unfolding numbered
+one-line n time code true = refl
+one-line n time code false = refl
+
+-- A LINE IN THE LOGBOOK EXACTLY WHERE A LOCK MOVED: a turn writes one line if it moves its lock, and else none
+pub line-where-moved : (t n : ℕ) (turn : LockTurn) (past : History) → length (logFor t n (Turn turn) past) ≡ cond (moves turn past) 1 0
 unfolding turnCodes
-said-codes a b past (Open lock code) e = rw (said-in a b past lock e)
-said-codes a b past (Shut lock) e = rw (said-in a b past lock e)
-
--- a book into which n lines were written numbers the next one n
-next-line : (n time code : ℕ) (b : Book) (t : Bool) → b ≡ bookAfter logLines n
-    → logged b time (keep t code) ≡ keep t (record { number = n % numbers; time = time; code = code })
-unfolding logged numbered bookAfter
-next-line n time code b true e = rw (e, mod-mod n numbers)
-next-line n time code b false e = refl
-
--- at the end of a run the state tells of as many lines more as the run wrote
-module _ (S : Shelf) (K : Kept S) where
-  told-by : (x : Step) (w : World) (n k : ℕ) (t : Bool) → K .Tells n (bodyOf w)
-      → K .Tells (n + length (cond t (S .writes x w) [])) (bodyOf (cond t (after x w) (refusedBy x w k)))
-  told-by x w n k true e = K .tells-on x w n e
-  told-by x w n k false e = rw (add-zero, refused-body x w k) e
-
-  told-step : (x : Step) (w : World) (n : ℕ) → K .Tells n (bodyOf w) → K .Tells (n + length (cond (accepted x w) (S .writes x w) [])) (bodyOf ((step x w) .0))
-  told-step x w n e = let k = firstOf (rowsOf x w) in rw (number-is x w, world-is x w) (told-by x w n k (eqb k 0) e)
-
-  pub told-run : (xs : List Step) (w : World) (n : ℕ) → K .Tells n (bodyOf w) → K .Tells (n + length (wrote S xs w)) (bodyOf ((run corrector xs w) .1))
-  told-run [] w n e = rw add-zero e
-  told-run (x ∷ xs) w n e =
-      let one = cond (accepted x w) (S .writes x w) [] in
-      let rest = wrote S xs ((step x w) .0) in
-      let sum : n + length one + length rest ≡ n + (length one + length rest) = omega arith in
-      rw (length-append one rest, ← sum) (told-run xs ((step x w) .0) (n + length one) (told-step x w n e))
+line-where-moved t n (Open lock code) past = one-line n (lastTime t past) (30 + lock) (not (lockAt lock past))
+line-where-moved t n (Shut lock) past = one-line n (lastTime t past) (40 + lock) (lockAt lock past)
 
 -- ---- a run from a start
 
@@ -176,7 +148,9 @@ module _ (xs : List Step) (time supcode custcode : ℕ) (archive : List ArchiveL
 
   -- THE LOCKS STAND WHERE THE HISTORY SAYS, and their codes are the start's
   pub locks-exactly : end .state .core .locks ≡ said
-  locks-exactly = run-locks (startCode time supcode) (startCode time custcode) xs start [] (start-locks time supcode custcode (leb endOfTime time) refl)
+  locks-exactly =
+      from-start time supcode custcode archive log audit (λ w past. w .state .core .locks ≡ locksIn (startCode time supcode) (startCode time custcode) past)
+      (λ x w past h e. locks-kept (startCode time supcode) (startCode time custcode) x w past e) (start-locks time supcode custcode (leb endOfTime time) refl) xs
 
   -- so each of the three is open exactly if the last accepted turn of it opened it
   pub lock-exactly : (lock : ℕ) → noLock lock ≡ false → lockIn (end .state .core .locks) lock ≡ lockAt lock past
@@ -194,12 +168,3 @@ module _ (xs : List Step) (time supcode custcode : ℕ) (archive : List ArchiveL
   -- CLEAR IS REFUSED BY 10 EXACTLY WHEN neither lock 1 nor lock 2 is open by the history, where 1 does not come first
   pub clear-right-exactly : (numberOf ((step Clear end) .1) ≡ 10) ↔ ((earlier 10 (rowsOf Clear end) ≡ false) × (not (mayClear past) ≡ true))
   clear-right-exactly = refused-when Clear end 10 (omega arith) (not (mayClear past)) (λ e. ap (λ (l : Locks). not (l .cal || l .sup)) locks-exactly)
-
-  -- A LINE IN THE LOGBOOK EXACTLY WHERE A LOCK MOVED: an accepted turn writes one line if it moves its lock, and else none. The line has the next
-  -- number, the time of the last accepted cycle and the turn's code
-  pub line-where-moved : (turn : LockTurn) → accepted (Turn turn) end ≡ true
-      → logBy (Turn turn) end ≡ keep (moves turn past) (record { number = length (wrote logShelf xs start) % numbers; time = lastTime (startTime time) past; code = turnCode turn })
-  line-where-moved turn e =
-      rw (locks-exactly, last-time xs time supcode custcode archive log audit, said-codes (startCode time supcode) (startCode time custcode) past turn (turned-lock turn end e))
-      (next-line (length (wrote logShelf xs start)) (lastTime (startTime time) past) (turnCode turn) (end .state .core .stores .log) (moves turn past)
-      (rw zero-add at (told-run logShelf logKept xs start 0 (begun-tells time supcode custcode archive log audit .1))))

@@ -26,12 +26,11 @@ use Rattle.runs.specs.Exactly.{applies, earlier, listsNumber, orderlyB}
 use Rattle.runs.specs.Exactly as exact
 use Rattle.runs.specs.Rows.{asking, rowsOf}
 use Rattle.runs.specs.Run.{Step, Question, Cycle, Turn, Clear, Ask, Call, Commit, World, numberOf, step, corrector, started, Body, bodyOf}
-use Rattle.runs.specs.Lines.{archiveBy, logBy, auditBy}
 use Rattle.runs.specs.History.{History, history}
 use Rattle.runs.specs.Never.{Sized, laterRows, metIn}
 use Rattle.runs.proofs.Exactly.{exactly, done-exactly, listed}
 use Rattle.runs.proofs.Effects.{leaves, number-is, orderly}
-use Rattle.runs.proofs.Lines.{archive-stores, log-stores, audit-stores}
+use Rattle.runs.proofs.Lines.{archiveBy, logBy, auditBy, archive-stores, log-stores, audit-stores}
 
 -- ---- no step changes the length of a store
 

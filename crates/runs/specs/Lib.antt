@@ -1,13 +1,13 @@
--- Runs of the corrector: what they put on the counters and into the stores, what the fault card says exactly, and what their history says.
+-- Runs of the corrector: what their history says, what they put on the counters and into the stores, and what the fault card says exactly.
 pub mod Run
 pub mod Exactly
 pub mod Rows
-pub mod Sums
-pub mod Lines
+pub mod Never
 pub mod History
+pub mod Open
 pub mod Stale
 pub mod InForce
-pub mod Open
 pub mod Locks
-pub mod Never
+pub mod Sums
 pub mod Latches
+pub mod Lines

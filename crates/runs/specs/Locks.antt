@@ -1,7 +1,7 @@
 -- Where the locks stand, said of the history alone. Document 01, "Doors, sessions, locks": "They .. are shut when fresh. .. A lock that opens or
 -- shuts is logged; turning it to where it already stands is accepted and not logged, but opening needs the right code even then."
 -- Assumes nothing.
-use Prim.Native.Nat.{ℕ, _+_}
+use Prim.Native.Nat.{ℕ}
 use mathlib.Core.Bool.{Bool, false, not, cond, _&&_, _||_}
 use mathlib.Core.List.{[], _∷_}
 use lib.Dec.{leb, eqb}
@@ -58,8 +58,3 @@ mayClear past = lockAt 1 past || lockAt 2 past
 abbrev pub moves : LockTurn → History → Bool
 moves (Open lock code) past = not (lockAt lock past)
 moves (Shut lock) past = lockAt lock past
-
--- 31 to 33: lock 1 to 3 opened; 41 to 43: shut
-abbrev pub turnCode : LockTurn → ℕ
-turnCode (Open lock code) = 30 + lock
-turnCode (Shut lock) = 40 + lock
