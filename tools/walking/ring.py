@@ -43,7 +43,7 @@ class Ring:
         self.wrote = found(r"≡ (\w+) ", w.signature.ensures, w.name)
         for word in (self.size, self.most, self.lines, self.counts, self.wrote, "wroteAt"):
             w.names.cites(word, w.crate)
-        w.names.use(w.names.specs("books", "Books"), "wroteAt")
+        w.names.use(w.names.specs("books", "Plan"), "wroteAt")
         w.names.use(w.names.proofs("books", "Laws"), "wroteAt-none", "wroteAt-next", "length-wroteAt", "linesFor-some")
         self.law = "%s (%s .slot) (%s) %s-now" % (self.size, self.p, self.lines, self.x)
 

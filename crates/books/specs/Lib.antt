@@ -1,2 +1,3 @@
--- What the three books hold, and what storing lines in them leaves.
+-- The three books, and how the code stores lines in them.
 pub mod Books
+pub mod Plan

@@ -29,7 +29,7 @@ use Rattle.ring.proofs.Stores.{whole-written}
 use Rattle.books.specs.declared.ArchiveLine.{ArchiveLine}
 use Rattle.books.specs.declared.LogLine.{LogLine}
 use Rattle.books.specs.Books.{noArchive, noLog}
-use Rattle.notes.specs.Notes.{numbered, logged}
+use Rattle.notes.specs.Notes.{numbered, logLine, logged}
 use Rattle.notes.proofs.Laws.{numbered-length}
 use Rattle.state.specs.declared.Counters.{Counters}
 use Rattle.state.specs.declared.Alarms.{Alarms}
@@ -191,8 +191,8 @@ pub log-after : (s : State) (r : Brought) (archive : List ArchiveLine) (log : Li
 unfolding cycled cycledCore advancedBook logged
 log-after s r archive log w e =
     let codes : List ℕ = changes (s .core .measured .alarms) (alarmsFor (s .core .settings) r) in
-    let lines : List LogLine = numbered (s .core .stores .log .number) (r .time) codes in
+    let lines : List LogLine = numbered (logLine (r .time)) (s .core .stores .log .number) codes in
     let held : FromFresh (ringAfter logLines) (s .core .stores .log .ring) = book-ring logLines (s .core .stores .log) (book-from log-common (s .core .stores .log) (whole-sound s w .core .log-held)) in
     ap (λ (n : ℕ). heldLines logLines noLog (advancedRing logLines n (s .core .stores .log .ring)) (written logLines (s .core .stores .log .ring) log lines))
-    (sym (numbered-length (s .core .stores .log .number) (r .time) codes))
+    (sym (numbered-length (logLine (r .time)) (s .core .stores .log .number) codes))
     ∙ whole-written logLines noLog (s .core .stores .log .ring) log lines (omega arith) e held

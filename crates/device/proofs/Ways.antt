@@ -2,7 +2,7 @@
 -- its step.
 -- Assumes nothing.
 use Prim.Native.Nat.{ℕ}
-use mathlib.Core.Path.{_≡_, refl, sym, _∙_}
+use mathlib.Core.Path.{_≡_, refl, sym, ap, _∙_}
 use mathlib.Core.Bool.{Bool, true, false, not, cond}
 use mathlib.Core.List.{List}
 use lib.Dec.{T, eqb}
@@ -13,21 +13,20 @@ use Rattle.state.specs.declared.State.{State}
 use Rattle.state.specs.State.{wholeB}
 use Rattle.cycle.specs.Plan.{cyclePlanned}
 use Rattle.cycle.proofs.Join.{cycle-planned}
-use Rattle.panel.specs.Panel.{archiveLineBy, logLineBy}
-use Rattle.panel.specs.Plan.{turnPlanned}
-use Rattle.panel.proofs.Planned.{opened-so, shut-so}
-use Rattle.doors.specs.Doors.{auditLineBy}
-use Rattle.doors.specs.Plan.{commitPlanned}
-use Rattle.doors.proofs.Kept.{commit-planned}
+use Rattle.panel.specs.Plan.{turnPlanned, logLineBy, archiveLineBy}
+use Rattle.panel.proofs.Planned.{opened-so, shut-so, log-line-so, archive-line-so}
+use Rattle.doors.specs.Plan.{commitPlanned, auditLineBy}
+use Rattle.doors.proofs.Kept.{commit-planned, audit-line-so}
 use Rattle.commands.specs.declared.LockTurn.the-variants.{Open, Shut}
+use Rattle.commands.specs.declared.Question.{Question}
 use Rattle.commands.specs.declared.Question.the-variants as question
 use Rattle.commands.specs.declared.Command.{Command}
 use Rattle.commands.specs.declared.Command.the-variants.{Cycle, Turn, Clear, Ask, Call, Commit}
 use Rattle.commands.specs.declared.Reply.{Reply}
 use Rattle.commands.specs.declared.Answer.{Answer}
 use Rattle.commands.specs.Answers.{World}
-use Rattle.steps.specs.Step.{step}
-use Rattle.device.specs.Plan.{kindOf, broughtIn, turnIn, doorIn, plainLine, lineAsked, lineOf, stateReply, byState, answeredBy, byValue, seenBy, seenOf, turnBy, turnOf, answerIn}
+use Rattle.steps.specs.Step.{replyTo, step}
+use Rattle.device.specs.Plan.{kindOf, broughtIn, turnIn, doorIn, plainLine, lineAsked, lineOf, stateReply, byState, answeredBy, byValue, replyBy, seenBy, seenOf, turnBy, turnOf, answerIn}
 
 -- ---- a test that is known
 
@@ -129,12 +128,18 @@ module _ (sound : Bool) (s : State) (seen : Reply) (archive : List ArchiveLine) 
 
 -- ---- where it is said rightly whether the state is whole, this is the step
 
+reply-is : (q : Question) (w : World) → replyBy (wholeB (w .state)) q w ≡ replyTo q w
+reply-is question.Report w = refl
+reply-is (question.Archive i) w = archive-line-so (w .state) i (w .archive)
+reply-is (question.Log i) w = log-line-so (w .state) i (w .log)
+reply-is (question.Audit i) w = audit-line-so (w .state) i (w .audit)
+
 pub turn-is-step : (c : Command) (w : World) → turnBy (wholeB (w .state)) (seenBy (wholeB (w .state)) c w) c w ≡ step c w
 unfolding turnBy seenBy
 turn-is-step (Cycle r) w = rw (cycle-planned (w .state) r (w .archive) (w .log))
 turn-is-step (Turn (Open lock code)) w = rw ((opened-so (w .state) lock code (w .log)) .0, (opened-so (w .state) lock code (w .log)) .1)
 turn-is-step (Turn (Shut lock)) w = rw ((shut-so (w .state) lock (w .log)) .0, (shut-so (w .state) lock (w .log)) .1)
 turn-is-step Clear w = refl
-turn-is-step (Ask q) w = refl
+turn-is-step (Ask q) w = ap (λ (r : Reply). (w, r)) (reply-is q w)
 turn-is-step (Call door act) w = refl
 turn-is-step (Commit door) w = rw (commit-planned (w .state) door (w .audit))

@@ -13,8 +13,8 @@ use Rattle.books.specs.declared.AuditLine.{AuditLine}
 use Rattle.state.specs.declared.State.{State}
 use Rattle.cycle.specs.Plan.{cyclePlanned}
 use Rattle.panel.specs.Panel as panel
-use Rattle.panel.specs.Plan.{turnPlanned}
-use Rattle.doors.specs.Plan.{commitPlanned}
+use Rattle.panel.specs.Plan.{turnPlanned, logLineBy, archiveLineBy}
+use Rattle.doors.specs.Plan.{commitPlanned, auditLineBy}
 use Rattle.commands.specs.declared.Brought.{Brought}
 use Rattle.commands.specs.declared.LockTurn.{LockTurn}
 use Rattle.commands.specs.declared.LockTurn.the-variants.{Shut}
@@ -25,7 +25,7 @@ use Rattle.commands.specs.declared.Command.the-variants.{Cycle, Turn, Clear, As
 use Rattle.commands.specs.declared.Reply.{Reply}
 use Rattle.commands.specs.declared.Answer.{Answer}
 use Rattle.commands.specs.Answers.{World, plain}
-use Rattle.steps.specs.Step.{answers, cycles, logs, audits, replyBy, calledBy}
+use Rattle.steps.specs.Step.{answers, cycles, logs, audits, calledBy}
 use Rattle.device.specs.declared.Line.{Line}
 
 -- ---- the commands that are lent a store to write
@@ -117,7 +117,14 @@ byValue sound s (Commit door) seen = answeredBy seen s
 abbrev pub worldOf : State → List ArchiveLine → List LogLine → List AuditLine → World
 worldOf s archive log audit = record { state = s; archive = archive; log = log; audit = audit }
 
--- the reply to a question; a command that is none asks nothing
+-- the reply to a question, by whether the state is said to be whole
+abbrev pub replyBy : Bool → Question → World → Reply
+replyBy sound question.Report w = panel.reportBy sound (w .state)
+replyBy sound (question.Archive i) w = archiveLineBy sound (w .state) i (w .archive)
+replyBy sound (question.Log i) w = logLineBy sound (w .state) i (w .log)
+replyBy sound (question.Audit i) w = auditLineBy sound (w .state) i (w .audit)
+
+-- a command that is no question asks nothing
 unfoldable pub seenBy : Bool → Command → World → Reply
 seenBy sound (Cycle r) w = plain 0
 seenBy sound (Turn t) w = plain 0

@@ -5,17 +5,16 @@ use mathlib.Core.Path.{_≡_, refl, sym, _∙_}
 use mathlib.Core.Bool.{Bool, true, false, cond}
 use mathlib.Core.List.{List}
 use Prim.Native.Nat.{ℕ}
-use lib.Dec.{eqb, leb}
+use lib.Dec.{eqb}
 use lib.ListN.{length}
-use borrow.Author.Tests.{eqb-true, leb-true}
+use borrow.Author.Tests.{eqb-true}
 use Rattle.ground.proofs.Flags.{Either, is-true, is-false, either-of}
 use Rattle.settings.specs.declared.Value.{Value}
 use Rattle.books.specs.declared.AuditLine.{AuditLine}
 use Rattle.state.specs.declared.Session.{Session}
 use Rattle.state.specs.declared.State.{State}
 use Rattle.state.specs.State.{noSession, wholeB}
-use Rattle.asked.specs.Asked.{lineRefusal}
-use Rattle.doors.specs.Doors.{sessionAt, otherAt, withSession, cellAt, withCell, markedRead, stagedCell, begun, beginRefusal, beginBy, beginOf, abandonRefusal, abandonBy, abandonOf, readRefusal, valueRead, readAfter, readBy, readOf, writeRefusal, writeAfter, writeBy, writeOf, commitRefusal, commitLines, committed, refusedCommit, commitOf, auditLineBy, auditLineOf}
+use Rattle.doors.specs.Doors.{sessionAt, otherAt, withSession, cellAt, withCell, markedRead, stagedCell, begun, beginRefusal, beginBy, beginOf, abandonRefusal, abandonBy, abandonOf, readRefusal, valueRead, readAfter, readBy, readOf, writeRefusal, writeAfter, writeBy, writeOf, commitRefusal, commitLines, committed, endsRefused, refusedCommit, commitOf, auditLineOf}
 use Rattle.state.proofs.Sound.{no-session}
 use Rattle.doors.proofs.Stays.{with-session-whole, begun-sound, read-after-whole, write-after-whole, committed-whole}
 use Rattle.doors.proofs.Laws.{Beside, with-mine, with-core, placed-mine, commit-number, placed-core, begin-knows, abandon-knows, ended-knows}
@@ -71,7 +70,6 @@ module _ {door : ℕ} {s t : State} (p : Beside door s t) where
   same-lines = simp (same-session, p .core)
 
   pub same-audit-line : (i : ℕ) (l : List AuditLine) → auditLineOf t i l ≡ auditLineOf s i l
-  unfolding auditLineBy lineRefusal
   same-audit-line i l = simp (p .whole, p .core)
 
   pub same-commit : (l : List AuditLine) → commitOf t (otherDoor door) l .answer .reply .number ≡ commitOf s (otherDoor door) l .answer .reply .number
@@ -150,9 +148,9 @@ module _ {door : ℕ} {s t : State} (p : Beside door s t) where
   refused-on : (n : ℕ) → Beside door (refusedCommit s (otherDoor door) (commitRefusal (wholeB s) s (otherDoor door) n)) (refusedCommit t (otherDoor door) (commitRefusal (wholeB s) s (otherDoor door) n))
   unfolding refusedCommit
   refused-on n =
-      chosen-on (leb 10 (commitRefusal (wholeB s) s (otherDoor door) n)) noSession noSession refl
-      (λ b. with-session-whole s (otherDoor door) noSession (ended-knows s (otherDoor door) n (leb-true 10 (commitRefusal (wholeB s) s (otherDoor door) n) b)) no-session)
-      (λ b. with-session-whole t (otherDoor door) noSession (p .whole ∙ ended-knows s (otherDoor door) n (leb-true 10 (commitRefusal (wholeB s) s (otherDoor door) n) b)) no-session)
+      chosen-on (endsRefused (commitRefusal (wholeB s) s (otherDoor door) n)) noSession noSession refl
+      (λ b. with-session-whole s (otherDoor door) noSession (ended-knows s (otherDoor door) n b) no-session)
+      (λ b. with-session-whole t (otherDoor door) noSession (p .whole ∙ ended-knows s (otherDoor door) n b) no-session)
 
   commit-by : (l : List AuditLine) → Either (eqb (commitRefusal (wholeB s) s (otherDoor door) (length l)) 0) →
       Beside door (commitOf s (otherDoor door) l .answer .state) (commitOf t (otherDoor door) l .answer .state)

@@ -1,15 +1,16 @@
 -- What the steps of a session leave alone: a commit refused by 10, 11 or 12 ends the session, and any other refusal leaves it; begin, read,
--- write and abandon change nothing of the core nor of the other door's session; what was read stays read. And a line of the audit trail.
+-- write and abandon change nothing of the core nor of the other door's session; what was read stays read. A second write of a setting replaces the
+-- first. And a line of the audit trail.
 -- Assumes nothing.
-use mathlib.Core.Path.{_≡_, refl, sym, _∙_}
-use mathlib.Core.Bool.{Bool, true, false, not, cond, _&&_}
+use mathlib.Core.Path.{_≡_, refl, sym, ap, _∙_}
+use mathlib.Core.Bool.{Bool, true, false, not, cond, _&&_, false≢true}
 use mathlib.Core.List.{List}
-use Prim.Native.Nat.{ℕ, _-_, _≤_, _<_}
+use Prim.Native.Nat.{ℕ, _-_, _<_}
 use native.Mathlib.Omega.{arith}
 use lib.Dec.{ltb, eqb}
-use lib.ListN.{length, getD, set}
+use lib.ListN.{length, getD, set, length-set}
 use lib.Seq.{getD-set-same, getD-set-other, set-out}
-use borrow.Author.Tests.{ltb-true, ltb-false, eqb-true, eqb-false, eq-eqb, le-leb, lt-leb}
+use borrow.Author.Tests.{ltb-true, ltb-false, eqb-true, eqb-false, eq-eqb}
 use Rattle.ground.proofs.Flags.{Either, is-true, is-false, either-of, and-left}
 use Rattle.settings.specs.declared.Value.{Value}
 use Rattle.settings.specs.Settings.{settingCount}
@@ -24,8 +25,8 @@ use Rattle.state.specs.declared.State.{State}
 use Rattle.state.specs.State.{blankCell, noSession, wholeB}
 use Rattle.state.proofs.Card.{passes, not-false}
 use Rattle.commands.specs.declared.Given.the-variants as given
-use Rattle.asked.proofs.Laws.{line-read}
-use Rattle.doors.specs.Doors.{sessionAt, otherAt, placed, withSession, cellAt, withCell, begun, beginRefusal, beginBy, beginOf, abandonRefusal, abandonBy, abandonOf, readRefusal, markedRead, readAfter, readBy, readOf, writeRefusal, stagedCell, writeAfter, writeBy, writeOf, commitRefusal, commitLines, committed, refusedCommit, commitOf, auditLineBy, auditLineOf}
+use Rattle.asked.specs.Asked.{lineGiven}
+use Rattle.doors.specs.Doors.{sessionAt, otherAt, placed, withSession, cellAt, withCell, begun, beginRefusal, beginBy, beginOf, abandonRefusal, abandonBy, abandonOf, readRefusal, markedRead, readAfter, readBy, readOf, writeRefusal, stagedCell, writeAfter, writeBy, writeOf, commitRefusal, commitLines, committed, endsRefused, refusedCommit, commitOf, auditLineOf}
 use Rattle.doors.proofs.Stays.{read-accepted, write-accepted, begin-whole, abandon-whole, read-whole, write-whole}
 
 -- ---- a commit, done or refused
@@ -39,13 +40,13 @@ number-by s door l (is-false f) = rw f
 pub commit-number : (s : State) (door : ℕ) (l : List AuditLine) → commitOf s door l .answer .reply .number ≡ commitRefusal (wholeB s) s door (length l)
 commit-number s door l = number-by s door l (either-of (eqb (commitRefusal (wholeB s) s door (length l)) 0))
 
-pub refused-kept : (s : State) (door number : ℕ) → number < 10 → refusedCommit s door number ≡ s
+pub refused-kept : (s : State) (door number : ℕ) → endsRefused number ≡ false → refusedCommit s door number ≡ s
 unfolding refusedCommit
-refused-kept s door number h = rw (lt-leb 10 number h)
+refused-kept s door number h = rw h
 
-pub refused-ended : (s : State) (door number : ℕ) → 10 ≤ number → refusedCommit s door number ≡ withSession s door noSession
+pub refused-ended : (s : State) (door number : ℕ) → endsRefused number ≡ true → refusedCommit s door number ≡ withSession s door noSession
 unfolding refusedCommit
-refused-ended s door number h = rw (le-leb 10 number h)
+refused-ended s door number h = rw h
 
 done-by : (s : State) (door : ℕ) (l : List AuditLine) → eqb (commitRefusal (wholeB s) s door (length l)) 0 ≡ true →
     (commitOf s door l .answer .state ≡ committed s door) × (commitOf s door l .audit ≡ written auditLines (s .core .stores .audit .ring) l (commitLines s door))
@@ -209,12 +210,53 @@ read-marks s door setting e z =
     let inside : setting - 1 < length (sessionAt s door .cells) = omega (arith, read-accepted s door setting z .1) in
     rw (eq-eqb (readRefusal (wholeB s) s door setting) 0 z, with-mine s door (withCell (sessionAt s door) setting (markedRead (cellAt (sessionAt s door) setting))), getD-set-same (sessionAt s door .cells) (setting - 1) (markedRead (cellAt (sessionAt s door) setting)) blankCell inside)
 
-past-first : (b : Bool) (rest : ℕ) → 10 ≤ cond b 1 rest → b ≡ false
-past-first true rest h = absurd (omega arith)
+-- ---- a second write of a setting replaces the first
+
+-- the session at the door has staged v for the setting
+pub record Staged (s : State) (door setting : ℕ) (v : Value) : Type 0 where
+  pub is-staged : cellAt (sessionAt s door) setting .staged ≡ true
+  pub its-value : cellAt (sessionAt s door) setting .value ≡ v
+
+written-cell : (s : State) (door setting : ℕ) (v : Value) → length (sessionAt s door .cells) ≡ settingCount → writeOf s door setting v .reply .number ≡ 0 →
+    cellAt (sessionAt (writeOf s door setting v .state) door) setting ≡ stagedCell (cellAt (sessionAt s door) setting) v
+unfolding writeBy writeAfter withCell cellAt
+written-cell s door setting v e z =
+    let x : Session = withCell (sessionAt s door) setting (stagedCell (cellAt (sessionAt s door) setting) v) in
+    let inside : setting - 1 < length (sessionAt s door .cells) = omega (arith, write-accepted s door setting v z .1) in
+    rw (eq-eqb (writeRefusal (wholeB s) s door setting v) 0 z, with-mine s door x)
+    (getD-set-same (sessionAt s door .cells) (setting - 1) (stagedCell (cellAt (sessionAt s door) setting) v) blankCell inside)
+
+pub write-stages : (s : State) (door setting : ℕ) (v : Value) → length (sessionAt s door .cells) ≡ settingCount → writeOf s door setting v .reply .number ≡ 0 →
+    Staged (writeOf s door setting v .state) door setting v
+unfolding stagedCell
+write-stages s door setting v e z =
+    let c = written-cell s door setting v e z in
+    record { is-staged = ap (λ (x : Cell). x .staged) c; its-value = ap (λ (x : Cell). x .value) c }
+
+chosen-length : (b : Bool) (s : State) (door setting : ℕ) (c : Cell) →
+    length (sessionAt (cond b (withSession s door (withCell (sessionAt s door) setting c)) s) door .cells) ≡ length (sessionAt s door .cells)
+unfolding withCell
+chosen-length true s door setting c = rw (with-mine s door (withCell (sessionAt s door) setting c)) (length-set (sessionAt s door .cells) (setting - 1) c)
+chosen-length false s door setting c = refl
+
+write-length : (s : State) (door setting : ℕ) (v : Value) → length (sessionAt (writeOf s door setting v .state) door .cells) ≡ length (sessionAt s door .cells)
+unfolding writeBy writeAfter
+write-length s door setting v = chosen-length (eqb (writeRefusal (wholeB s) s door setting v) 0) s door setting (stagedCell (cellAt (sessionAt s door) setting) v)
+
+-- AFTER TWO ACCEPTED WRITES OF A SETTING THE SESSION HAS STAGED THE SECOND
+pub write-replaces : (s : State) (door setting : ℕ) (v w : Value) → length (sessionAt s door .cells) ≡ settingCount →
+    writeOf s door setting v .reply .number ≡ 0 → writeOf (writeOf s door setting v .state) door setting w .reply .number ≡ 0 →
+    Staged (writeOf (writeOf s door setting v .state) door setting w .state) door setting w
+write-replaces s door setting v w e z y = write-stages (writeOf s door setting v .state) door setting w (write-length s door setting v ∙ e) y
+
+-- ---- a commit that is refused and ends its session
+
+past-first : (b : Bool) (rest : ℕ) → endsRefused (cond b 1 rest) ≡ true → b ≡ false
+past-first true rest h = absurd (false≢true h)
 past-first false rest h = refl
 
 -- a commit that ends its session without putting anything in force was tried on a whole state
-pub ended-knows : (s : State) (door n : ℕ) → 10 ≤ commitRefusal (wholeB s) s door n → wholeB s ≡ true
+pub ended-knows : (s : State) (door n : ℕ) → endsRefused (commitRefusal (wholeB s) s door n) ≡ true → wholeB s ≡ true
 unfolding commitRefusal
 ended-knows s door n h = and-left (wholeB s) (eqb n auditLines) (not-false (wholeB s && eqb n auditLines) (past-first (not (wholeB s && eqb n auditLines)) _ h))
 
@@ -223,5 +265,5 @@ ended-knows s door n h = and-left (wholeB s) (eqb n auditLines) (not-false (whol
 -- a line that is given is line i of those held, newest first
 pub audit-line-held : (s : State) (i : ℕ) (audit : List AuditLine) → auditLineOf s i audit .number ≡ 0
     → auditLineOf s i audit .given ≡ given.Audit (getD (heldLines auditLines noAudit (s .core .stores .audit .ring) audit) i noAudit)
-unfolding auditLineBy
-audit-line-held s i audit e = rw (e, line-read noAudit (wholeB s) auditLines (length audit) (s .core .stores .audit .ring) i audit e)
+unfolding lineGiven
+audit-line-held s i audit e = rw e

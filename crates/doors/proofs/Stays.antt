@@ -5,7 +5,7 @@ use mathlib.Core.Bool.{Bool, true, false, not, cond, _&&_, _||_, or-true, false�
 use mathlib.Core.List.{List}
 use Prim.Native.Nat.{ℕ, _-_, _<_}
 use native.Mathlib.Omega.{arith}
-use lib.Dec.{ltb, leb, eqb}
+use lib.Dec.{ltb, eqb}
 use lib.ListN.{length, getD, set}
 use lib.Seq.{getD-set-same, getD-set-other, set-out}
 use borrow.Author.Tests.{ltb-true, ltb-false, eqb-true, eqb-false}
@@ -25,7 +25,7 @@ use Rattle.state.specs.State.{blankCell, noSession, cellB, cellsB, sessionB, co
 use Rattle.state.proofs.Card.{Passes, passes, not-false}
 use Rattle.state.proofs.Sound.{SoundCore, sound-core, Sound, whole-sound, no-session}
 use Rattle.commands.specs.Answers.{answered}
-use Rattle.doors.specs.Doors.{noDoor, noSuchSetting, sessionAt, otherAt, placed, withSession, cellAt, withCell, begun, beginRefusal, beginBy, beginOf, abandonRefusal, abandonBy, abandonOf, readRefusal, markedRead, readAfter, readBy, readOf, writeRefusal, stagedCell, writeAfter, writeBy, writeOf, lockMissing, staleB, asStand, commitRefusal, commitLines, markedBy, overtakenSession, committedCore, committed, refusedCommit, commitOf}
+use Rattle.doors.specs.Doors.{noDoor, noSuchSetting, sessionAt, otherAt, placed, withSession, cellAt, withCell, begun, beginRefusal, beginBy, beginOf, abandonRefusal, abandonBy, abandonOf, readRefusal, markedRead, readAfter, readBy, readOf, writeRefusal, stagedCell, writeAfter, writeBy, writeOf, lockMissing, staleB, asStand, commitRefusal, commitLines, markedBy, overtakenSession, committedCore, committed, endsRefused, refusedCommit, commitOf}
 use Rattle.doors.proofs.Force.{stand-fits, marks-at}
 
 -- ---- a cell of a session
@@ -281,7 +281,7 @@ committed-whole s door n z =
 
 refused-whole : (s : State) (door number : ℕ) → wholeB s ≡ true → wholeB (refusedCommit s door number) ≡ true
 unfolding refusedCommit
-refused-whole s door number e = chosen-whole (leb 10 number) s (withSession s door noSession) e (λ t. with-session-whole s door noSession e no-session)
+refused-whole s door number e = chosen-whole (endsRefused number) s (withSession s door noSession) e (λ t. with-session-whole s door noSession e no-session)
 
 commit-by : (s : State) (door : ℕ) (audit : List AuditLine) → wholeB s ≡ true → Either (eqb (commitRefusal (wholeB s) s door (length audit)) 0) →
     wholeB (commitOf s door audit .answer .state) ≡ true

@@ -4,13 +4,13 @@ use Prim.Native.Nat.{ℕ, zero, suc, _+_, _-_}
 use mathlib.Core.Bool.{Bool, true, not, cond, _&&_, _||_}
 use mathlib.Core.List.{List, [], _∷_, _++_}
 use lib.ListN.{length, getD, set, replicate}
-use lib.Dec.{ltb, leb, eqb}
+use lib.Dec.{ltb, eqb}
 use Rattle.ground.specs.Below.{anyBelow}
 use Rattle.settings.specs.declared.Value.{Value}
 use Rattle.settings.specs.declared.Setting.{Setting}
 use Rattle.settings.specs.Settings.{settingCount, noSetting, fitsB, orderedB, rightB}
 use Rattle.ring.specs.declared.Book.{Book}
-use Rattle.ring.specs.Ring.{auditLines, lineNumber, advancedBook, placeOf}
+use Rattle.ring.specs.Ring.{auditLines, advancedBook}
 use Rattle.books.specs.declared.AuditLine.{AuditLine}
 use Rattle.books.specs.Books.{noAudit}
 use Rattle.state.specs.declared.Locks.{Locks}
@@ -21,12 +21,12 @@ use Rattle.state.specs.declared.State.{State}
 use Rattle.state.specs.State.{blankCell, noSession, wholeB}
 use Rattle.state.specs.Card.{firstOf}
 use Rattle.ring.specs.Store.{written}
-use Rattle.notes.specs.Notes.{keep}
+use Rattle.notes.specs.Notes.{keep, numbered}
 use Rattle.commands.specs.declared.Given.the-variants as given
 use Rattle.commands.specs.declared.Reply.{Reply}
 use Rattle.commands.specs.declared.Answer.{Answer}
 use Rattle.commands.specs.Answers.{plain, giving, answered, Outcome, withAudit}
-use Rattle.asked.specs.Asked.{isHeld, slotOf, lineRefusal}
+use Rattle.asked.specs.Asked.{lineGiven}
 
 -- ---- the doors: 1 the keypad, 2 the optical port
 
@@ -166,21 +166,31 @@ commitRefusal sound s door auditLength = firstOf (
     ∷ (12, not (orderedB (asStand (s .core .settings) (sessionAt s door .cells))))
     ∷ [])
 
--- the n-th line of a commit, counted from 0, of the setting at place k
-unfoldable pub lineFor : Book → ℕ → ℕ → ℕ → ℕ → Value → Value → AuditLine
-lineFor b n time door k old new = record { number = lineNumber b n; time = time; door = door; setting = k + 1; old = old; new = new }
+-- a staged setting: its number, the value in force and the value staged
+pub record Change : Type 0 where
+  pub setting : ℕ
+  pub old : Value
+  pub new : Value
 
--- One audit line for each staged setting among the first n, in order of setting number, also where old and new are equal.
-unfoldable pub auditOf : Book → ℕ → ℕ → List Setting → List Cell → ℕ → List AuditLine
-auditOf b time door a cells zero = []
-auditOf b time door a cells (suc k) =
-    auditOf b time door a cells k
-    ++ keep (getD cells k blankCell .staged)
-    (lineFor b (length (auditOf b time door a cells k)) time door k (getD a k noSetting .value) (getD cells k blankCell .value))
+-- the staged settings among the first n, in order of setting number, also where old and new are equal
+unfoldable pub changesAmong : List Setting → List Cell → ℕ → List Change
+changesAmong a cells zero = []
+changesAmong a cells (suc k) =
+    changesAmong a cells k
+    ++ keep (getD cells k blankCell .staged) (record { setting = k + 1; old = getD a k noSetting .value; new = getD cells k blankCell .value })
+
+-- "Audit line: number, time, door, setting, old value, new value."
+abbrev pub auditLine : ℕ → ℕ → ℕ → Change → AuditLine
+auditLine time door number c = record { number = number; time = time; door = door; setting = c .setting; old = c .old; new = c .new }
+
+-- one audit line each, numbered as the logbook's are
+unfoldable pub audited : Book → ℕ → ℕ → List Change → List AuditLine
+audited b time door cs = numbered (auditLine time door) (b .number) cs
 
 -- the lines of a commit at a door; the time is that of the last accepted cycle
 unfoldable pub commitLines : State → ℕ → List AuditLine
-commitLines s door = auditOf (s .core .stores .audit) (s .core .measured .time) door (s .core .settings) (sessionAt s door .cells) settingCount
+commitLines s door =
+    audited (s .core .stores .audit) (s .core .measured .time) door (changesAmong (s .core .settings) (sessionAt s door .cells) settingCount)
 
 -- the other door's session is marked where it had read a setting that is now put in force
 unfoldable pub markedBy : Cell → Cell → Cell
@@ -209,9 +219,13 @@ committed s door =
     placed (committedCore (s .core) (sessionAt s door .cells) (length (commitLines s door))) door noSession
     (overtakenSession (sessionAt s door) (otherAt s door))
 
--- refused by 10, 11 or 12 it ends the session and changes nothing else; any other refusal changes nothing at all
+-- "10, 11 and 12 at a commit also end that session"
+abbrev pub endsRefused : ℕ → Bool
+endsRefused number = eqb number 10 || (eqb number 11 || eqb number 12)
+
+-- such a refusal changes nothing else, and any other refusal nothing at all
 unfoldable pub refusedCommit : State → ℕ → ℕ → State
-refusedCommit s door number = cond (leb 10 number) (withSession s door noSession) s
+refusedCommit s door number = cond (endsRefused number) (withSession s door noSession) s
 
 unfoldable pub commitOf : State → ℕ → List AuditLine → Outcome
 commitOf s door audit =
@@ -220,12 +234,7 @@ commitOf s door audit =
     (withAudit (record { reply = plain 0; state = committed s door }) (written auditLines (s .core .stores .audit .ring) audit (commitLines s door)))
     (withAudit (record { reply = plain number; state = refusedCommit s door number }) audit)
 
--- ---- a line of the audit trail
-
-unfoldable pub auditLineBy : Bool → State → ℕ → List AuditLine → Reply
-auditLineBy sound s i audit =
-    let place = placeOf auditLines (s .core .stores .audit .ring) i in
-    giving (lineRefusal sound auditLines (length audit) (isHeld place)) (given.Audit (getD audit (slotOf place) noAudit))
+-- ---- a line of the audit trail: line i of the lines held, newest first
 
 abbrev pub auditLineOf : State → ℕ → List AuditLine → Reply
-auditLineOf s i audit = auditLineBy (wholeB s) s i audit
+auditLineOf s i audit = lineGiven given.Audit (wholeB s) auditLines noAudit (s .core .stores .audit .ring) audit i

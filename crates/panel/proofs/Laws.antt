@@ -29,10 +29,10 @@ use Rattle.state.specs.declared.Core.{Core}
 use Rattle.state.specs.declared.State.{State}
 use Rattle.state.specs.State.{fresh, latchedB, wholeB}
 use Rattle.state.proofs.Sound.{Sound, SoundCore, whole-sound, sound-whole, fresh-whole}
-use Rattle.asked.proofs.Laws.{line-read}
+use Rattle.asked.specs.Asked.{lineGiven}
 use Rattle.commands.specs.declared.Given.the-variants as given
 use Rattle.commands.specs.Answers.{plain, Outcome, withLog}
-use Rattle.panel.specs.Panel.{startRefusal, startOf, noLock, lockIn, withLock, turnCodes, turnedCore, turned, refusedTurn, openRefusal, openOf, shutRefusal, shutOf, clearedLatches, cleared, clearRefusal, clearBy, clearOf, reported, logLineBy, logLineOf, archiveLineBy, archiveLineOf}
+use Rattle.panel.specs.Panel.{startRefusal, startOf, noLock, lockIn, withLock, turnCodes, turnedCore, turned, refusedTurn, openRefusal, openOf, shutRefusal, shutOf, clearedLatches, cleared, clearRefusal, clearBy, clearOf, reported, logLineOf, archiveLineOf}
 
 -- ---- start
 
@@ -223,10 +223,10 @@ turned-still s lock to log e h at =
 -- a line that is given is line i of those held, newest first
 pub log-line-held : (s : State) (i : ℕ) (log : List LogLine) → logLineOf s i log .number ≡ 0
     → logLineOf s i log .given ≡ given.Log (getD (heldLines logLines noLog (s .core .stores .log .ring) log) i noLog)
-unfolding logLineBy
-log-line-held s i log e = rw (e, line-read noLog (wholeB s) logLines (length log) (s .core .stores .log .ring) i log e)
+unfolding lineGiven
+log-line-held s i log e = rw e
 
 pub archive-line-held : (s : State) (i : ℕ) (archive : List ArchiveLine) → archiveLineOf s i archive .number ≡ 0
     → archiveLineOf s i archive .given ≡ given.Archive (getD (heldLines archiveLines noArchive (s .core .stores .archive) archive) i noArchive)
-unfolding archiveLineBy
-archive-line-held s i archive e = rw (e, line-read noArchive (wholeB s) archiveLines (length archive) (s .core .stores .archive) i archive e)
+unfolding lineGiven
+archive-line-held s i archive e = rw e

@@ -4,11 +4,11 @@
 use Prim.Native.Nat.{ℕ, _+_}
 use mathlib.Core.Bool.{Bool, true, false, not, cond, _&&_, _||_}
 use mathlib.Core.List.{List, [], _∷_}
-use lib.ListN.{length, getD}
+use lib.ListN.{length}
 use lib.Dec.{ltb, leb, eqb}
 use Rattle.units.specs.Units.{plusLitres, plusBase}
 use Rattle.calendar.specs.Calendar.{endOfTime}
-use Rattle.ring.specs.Ring.{archiveLines, logLines, advancedBook, placeOf}
+use Rattle.ring.specs.Ring.{archiveLines, logLines, advancedBook}
 use Rattle.books.specs.declared.ArchiveLine.{ArchiveLine}
 use Rattle.books.specs.declared.LogLine.{LogLine}
 use Rattle.books.specs.Books.{noArchive, noLog}
@@ -25,7 +25,7 @@ use Rattle.commands.specs.declared.Given.the-variants as given
 use Rattle.commands.specs.declared.Reply.{Reply}
 use Rattle.commands.specs.declared.Answer.{Answer}
 use Rattle.commands.specs.Answers.{plain, giving, answered, Outcome, withLog}
-use Rattle.asked.specs.Asked.{isHeld, slotOf, lineRefusal}
+use Rattle.asked.specs.Asked.{lineGiven}
 
 -- ---- start
 
@@ -156,20 +156,10 @@ reportBy sound s = giving (reportRefusal sound) (given.Report (reported (s .core
 abbrev pub reportOf : State → Reply
 reportOf s = reportBy (wholeB s) s
 
--- ---- a line of a store: line 0 is the newest
-
-unfoldable pub logLineBy : Bool → State → ℕ → List LogLine → Reply
-logLineBy sound s i log =
-    let place = placeOf logLines (s .core .stores .log .ring) i in
-    giving (lineRefusal sound logLines (length log) (isHeld place)) (given.Log (getD log (slotOf place) noLog))
+-- ---- a line of a store: line i of the lines held, newest first
 
 abbrev pub logLineOf : State → ℕ → List LogLine → Reply
-logLineOf s i log = logLineBy (wholeB s) s i log
-
-unfoldable pub archiveLineBy : Bool → State → ℕ → List ArchiveLine → Reply
-archiveLineBy sound s i archive =
-    let place = placeOf archiveLines (s .core .stores .archive) i in
-    giving (lineRefusal sound archiveLines (length archive) (isHeld place)) (given.Archive (getD archive (slotOf place) noArchive))
+logLineOf s i log = lineGiven given.Log (wholeB s) logLines noLog (s .core .stores .log .ring) log i
 
 abbrev pub archiveLineOf : State → ℕ → List ArchiveLine → Reply
-archiveLineOf s i archive = archiveLineBy (wholeB s) s i archive
+archiveLineOf s i archive = lineGiven given.Archive (wholeB s) archiveLines noArchive (s .core .stores .archive) archive i

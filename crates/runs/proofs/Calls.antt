@@ -5,7 +5,7 @@ use mathlib.Core.Bool.{Bool, true, false, not, cond}
 use mathlib.Core.List.{List, [], _∷_}
 use Prim.Native.Nat.{ℕ, _-_}
 use native.Mathlib.Omega.{arith}
-use lib.Dec.{leb, eqb}
+use lib.Dec.{eqb}
 use lib.IntN.{pos}
 use lib.ListN.{length, getD}
 use Rattle.order.specs.Order.{Door, keypad, port, Act, Role, aside, at}
@@ -20,7 +20,7 @@ use Rattle.state.specs.declared.Session.{Session}
 use Rattle.state.specs.declared.State.{State}
 use Rattle.state.specs.State.{noSession, wholeB}
 use Rattle.state.specs.Card.{firstOf}
-use Rattle.doors.specs.Doors.{noDoor, noSuchSetting, sessionAt, otherAt, placed, withSession, cellAt, withCell, begun, beginRefusal, beginBy, beginOf, abandonRefusal, abandonBy, abandonOf, readRefusal, valueRead, markedRead, readAfter, readBy, readOf, writeRefusal, stagedCell, writeAfter, writeBy, writeOf, lockMissing, staleB, asStand, commitRefusal, auditOf, commitLines, overtakenSession, committedCore, committed, refusedCommit, commitOf}
+use Rattle.doors.specs.Doors.{noDoor, noSuchSetting, sessionAt, otherAt, placed, withSession, cellAt, withCell, begun, beginRefusal, beginBy, beginOf, abandonRefusal, abandonBy, abandonOf, readRefusal, valueRead, markedRead, readAfter, readBy, readOf, writeRefusal, stagedCell, writeAfter, writeBy, writeOf, lockMissing, staleB, asStand, commitRefusal, changesAmong, audited, commitLines, overtakenSession, committedCore, committed, endsRefused, refusedCommit, commitOf}
 use Rattle.state.proofs.Sound.{SoundCore}
 use Rattle.doors.proofs.Stays.{commit-accepted, core-stays}
 use Rattle.runs.specs.Exactly.{Rows}
@@ -194,7 +194,7 @@ insideOf (Call door (Write setting v)) b s = cond (noSuchSetting setting) (s, pl
 
 -- the lines of a commit, and all that is no session after it
 abbrev pub linesIn : ℕ → Body → Session → List AuditLine
-linesIn door b s = auditOf (b .core .stores .audit) (b .core .measured .time) door (b .core .settings) (s .cells) settingCount
+linesIn door b s = audited (b .core .stores .audit) (b .core .measured .time) door (changesAmong (b .core .settings) (s .cells) settingCount)
 
 abbrev pub forcedBy : ℕ → Body → Session → Body
 forcedBy door b s = record {
@@ -278,12 +278,12 @@ module _ {door : ℕ} {d : Door} (a : AtDoor door d) (b : Body) (m t : Session) 
   unfolding commitOf
   commit-done e = rw (commit-number, e, committed-at, commit-lines, core-at d (b .core) m t)
 
-  pub commit-ended : (n : ℕ) → eqb n 0 ≡ false → leb 10 n ≡ true → firstOf (commitRows b m) ≡ n
+  pub commit-ended : (n : ℕ) → eqb n 0 ≡ false → endsRefused n ≡ true → firstOf (commitRows b m) ≡ n
       → step (Commit door) (worldAt d b m t) ≡ (worldAt d b noSession t, plain n)
   unfolding commitOf refusedCommit
   commit-ended n z l e = rw (commit-number, e, z, l, with-session a (b .core) m t noSession)
 
-  pub commit-refused : (n : ℕ) → eqb n 0 ≡ false → leb 10 n ≡ false → firstOf (commitRows b m) ≡ n
+  pub commit-refused : (n : ℕ) → eqb n 0 ≡ false → endsRefused n ≡ false → firstOf (commitRows b m) ≡ n
       → step (Commit door) (worldAt d b m t) ≡ (worldAt d b m t, plain n)
   unfolding commitOf refusedCommit
   commit-refused n z l e = rw (commit-number, e, z, l)

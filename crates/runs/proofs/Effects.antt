@@ -19,7 +19,7 @@ use Rattle.state.specs.Card.{firstOf}
 use Rattle.commands.specs.declared.Brought.{Brought}
 use Rattle.cycle.specs.Cycle.{cycleRefusal, cycledCore, cycled, cycleOf}
 use Rattle.panel.specs.Panel.{turnedCore, turned, clearRefusal, cleared, clearBy, clearOf}
-use Rattle.doors.specs.Doors.{sessionAt, placed, withSession, commitRefusal, commitLines, committedCore, committed, refusedCommit, commitOf}
+use Rattle.doors.specs.Doors.{sessionAt, placed, withSession, commitRefusal, commitLines, committedCore, committed, endsRefused, refusedCommit, commitOf}
 use Rattle.commands.specs.declared.Given.the-variants as given
 use Rattle.runs.specs.Exactly.{Rows, applies, earlier, listsNumber, orderlyB}
 use Rattle.runs.specs.Exactly as exact
@@ -221,7 +221,7 @@ refused-body (Turn turn) w k = refl
 refused-body Clear w k = refl
 refused-body (Ask question) w k = refl
 refused-body (Call door act) w k = refl
-refused-body (Commit door) w k = rw (ended-core w door (leb 10 k))
+refused-body (Commit door) w k = rw (ended-core w door (endsRefused k))
 
 -- so that what an accepted step leaves, each step leaves
 pub leaves : {A : Type 0} (f : Body → A) (x : Step) (w : World) → f (bodyOf (after x w)) ≡ f (bodyOf w) → f (bodyOf ((step x w) .0)) ≡ f (bodyOf w)

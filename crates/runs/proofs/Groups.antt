@@ -8,9 +8,9 @@ use Rattle.state.specs.declared.Session.{Session}
 use Rattle.state.specs.declared.State.{State}
 use Rattle.state.specs.State.{noSession, wholeB}
 use Rattle.state.specs.Card.{firstOf}
-use Rattle.asked.specs.Asked.{lineRefusal}
-use Rattle.panel.specs.Panel.{turned, refusedTurn, openRefusal, openOf, shutRefusal, shutOf, reportRefusal, reportBy, logLineBy, archiveLineBy}
-use Rattle.doors.specs.Doors.{sessionAt, withSession, cellAt, withCell, begun, markedRead, stagedCell, valueRead, beginRefusal, beginBy, beginOf, abandonRefusal, abandonBy, abandonOf, readRefusal, readAfter, readBy, readOf, writeRefusal, writeAfter, writeBy, writeOf, auditLineBy}
+use Rattle.asked.specs.Asked.{lineRefusal, lineGiven}
+use Rattle.panel.specs.Panel.{turned, refusedTurn, openRefusal, openOf, shutRefusal, shutOf, reportRefusal, reportBy}
+use Rattle.doors.specs.Doors.{sessionAt, withSession, cellAt, withCell, begun, markedRead, stagedCell, valueRead, beginRefusal, beginBy, beginOf, abandonRefusal, abandonBy, abandonOf, readRefusal, readAfter, readBy, readOf, writeRefusal, writeAfter, writeBy, writeOf}
 use Rattle.commands.specs.declared.Given.the-variants as given
 use Rattle.runs.specs.Exactly.{Rows}
 use Rattle.runs.specs.Rows.{asking, turnRows, callRows, rowsOf, printedAfter}
@@ -28,7 +28,7 @@ turn-is (Shut lock) w = refl
 -- ---- questions
 
 pub reply-is : (x : Question) (w : World) → replyTo x w ≡ giving (firstOf (rowsOf (Ask x) w)) (asking x (bodyOf w) .gives)
-unfolding reportBy reportRefusal logLineBy archiveLineBy auditLineBy lineRefusal
+unfolding reportBy reportRefusal lineGiven lineRefusal
 reply-is question.Report w = rw (and-true (wholeB (w .state)))
 reply-is (question.Archive i) w = refl
 reply-is (question.Log i) w = refl

@@ -148,7 +148,7 @@ log-on : (w : World) (n time : ℕ) (codes : List ℕ) → w .state .core .store
     → advancedBook logLines (length codes) (w .state .core .stores .log) ≡ bookAfter logLines (n + length (logged (w .state .core .stores .log) time codes))
 unfolding logged
 log-on w n time codes e =
-    rw (numbered-length (w .state .core .stores .log .number) time codes, e) (book-advances logLines n (length codes) (omega arith))
+    rw (numbered-length (logLine time) (w .state .core .stores .log .number) codes, e) (book-advances logLines n (length codes) (omega arith))
 
 pub log-tells : (x : Step) (w : World) (n : ℕ) → LogTells n (bodyOf w) → LogTells (n + length (logBy x w)) (bodyOf (after x w))
 unfolding cycled cycledCore turned turnedCore cleared withSession placed readAfter writeAfter committed committedCore

@@ -3,27 +3,24 @@
 -- Assumes nothing.
 use mathlib.Core.Path.{_≡_, refl, sym, ap, _∙_}
 use mathlib.Core.Bool.{Bool, true, false, cond}
-use mathlib.Core.List.{List, [], _∷_, _++_, append-nil, map}
+use mathlib.Core.List.{List, [], _∷_, _++_, map}
 use Prim.Native.Nat.{ℕ, zero, suc, _+_, _%_}
 use native.Mathlib.Nat.{add-zero, zero-add, add-mod, mod-mod}
 use native.Mathlib.Omega.{arith}
 use lib.Dec.{eqb}
-use lib.ListN.{length, length-append, getD}
-use Rattle.settings.specs.declared.Setting.{Setting}
+use lib.ListN.{length, length-append}
 use Rattle.settings.specs.Settings.{settingCount}
 use Rattle.ring.specs.declared.Book.{Book}
-use Rattle.ring.specs.Ring.{logLines, auditLines, numbers, lineNumber, bookAfter}
-use Rattle.state.specs.declared.Cell.{Cell}
-use Rattle.state.specs.State.{blankCell}
+use Rattle.ring.specs.Ring.{logLines, auditLines, numbers, bookAfter}
 use Rattle.state.specs.Card.{firstOf}
-use Rattle.notes.specs.Notes.{keep, numbered, logged}
+use Rattle.notes.specs.Notes.{numbered, logLine, logged}
 use Rattle.notes.proofs.Laws.{numbered-length}
 use Rattle.books.specs.declared.ArchiveLine.{ArchiveLine}
 use Rattle.books.specs.declared.LogLine.{LogLine}
 use Rattle.books.specs.declared.AuditLine.{AuditLine}
 use Rattle.cycle.specs.Cycle.{changes, alarmsFor}
 use Rattle.panel.specs.Panel.{turnCodes}
-use Rattle.doors.specs.Doors.{sessionAt, lineFor, auditOf, commitLines}
+use Rattle.doors.specs.Doors.{sessionAt, changesAmong, auditLine, audited, commitLines}
 use Rattle.runs.specs.Run.{Step, Cycle, Turn, Clear, Ask, Call, Commit, World, lockOf, opensIt, numberOf, step, started, Body, bodyOf}
 use Rattle.runs.specs.Rows.{rowsOf, refusedBy}
 use Rattle.runs.specs.Lines.{Shelf, logBy, logShelf, auditBy, auditShelf, wrote, numbersFrom}
@@ -78,20 +75,25 @@ module _ (S : Shelf) (K : Kept S) (number : S .Line → ℕ)
       map-join number one rest
       ∙ rw (c .counts, run-numbers xs ((step x w) .0) (n + length one) (c .tells), length-append one rest) (numbers-join n (length one) (length rest))
 
--- ---- the logbook
+-- ---- the lines of a command: each carries the number that it is given
 
-line-numbers : (n time : ℕ) (cs : List ℕ) → map (λ (l : LogLine). l .number) (numbered n time cs) ≡ numbersFrom n (length cs)
-unfolding numbered
-line-numbers n time [] = refl
-line-numbers n time (c ∷ cs) = ap (λ l. n % numbers ∷ l) (line-numbers (n + 1) time cs)
+module _ {A B : Type 0} (line : ℕ → A → B) (number : B → ℕ) (carries : (n : ℕ) (x : A) → number (line n x) ≡ n) where
+  line-numbers : (n : ℕ) (xs : List A) → map number (numbered line n xs) ≡ numbersFrom n (length xs)
+  unfolding numbered
+  line-numbers n [] = refl
+  line-numbers n (x ∷ xs) = rw (carries (n % numbers) x) (ap (λ (l : List ℕ). n % numbers ∷ l) (line-numbers (n + 1) xs))
+
+  -- of a book into which n lines were written
+  numbers-on : (size n : ℕ) (b : Book) (xs : List A) → b ≡ bookAfter size n → map number (numbered line (b .number) xs) ≡ numbersFrom n (length (numbered line (b .number) xs))
+  numbers-on size n b xs e =
+      line-numbers (b .number) xs ∙ book-numbers size n (length xs) b e ∙ ap (numbersFrom n) (sym (numbered-length line (b .number) xs))
+
+-- ---- the logbook
 
 logged-numbers : (w : World) (n time : ℕ) (cs : List ℕ) → LogTells n (bodyOf w)
     → map (λ (l : LogLine). l .number) (logged (w .state .core .stores .log) time cs) ≡ numbersFrom n (length (logged (w .state .core .stores .log) time cs))
 unfolding logged
-logged-numbers w n time cs e =
-    line-numbers (w .state .core .stores .log .number) time cs
-    ∙ book-numbers logLines n (length cs) (w .state .core .stores .log) e
-    ∙ ap (numbersFrom n) (sym (numbered-length (w .state .core .stores .log .number) time cs))
+logged-numbers w n time cs e = numbers-on (logLine time) (λ (l : LogLine). l .number) (λ k c. refl) logLines n (w .state .core .stores .log) cs e
 
 log-numbers-on : (x : Step) (w : World) (n : ℕ) → LogTells n (bodyOf w) → map (λ (l : LogLine). l .number) (logBy x w) ≡ numbersFrom n (length (logBy x w))
 log-numbers-on (Cycle r) w n e = logged-numbers w n (r .time) (changes (w .state .core .measured .alarms) (alarmsFor (w .state .core .settings) r)) e
@@ -103,32 +105,17 @@ log-numbers-on (Commit door) w n e = refl
 
 -- ---- the audit trail
 
-module _ (b : Book) (time door : ℕ) (a : List Setting) (cells : List Cell) where
-  one-more-by : (k : ℕ) (t : Bool) (x : AuditLine) → x .number ≡ (b .number + length (auditOf b time door a cells k)) % numbers
-      → map (λ (l : AuditLine). l .number) (auditOf b time door a cells k) ≡ numbersFrom (b .number) (length (auditOf b time door a cells k))
-      → map (λ (l : AuditLine). l .number) (auditOf b time door a cells k ++ keep t x)
-      ≡ numbersFrom (b .number) (length (auditOf b time door a cells k ++ keep t x))
-  one-more-by k true x e h =
-      let old = auditOf b time door a cells k in
-      map-join (λ (l : AuditLine). l .number) old (x ∷ [])
-      ∙ rw (length-append old (x ∷ []), h, e) (numbers-join (b .number) (length old) 1)
-  one-more-by k false x e h = rw (append-nil (auditOf b time door a cells k)) h
-
-  audit-numbers-of : (k : ℕ) → map (λ (l : AuditLine). l .number) (auditOf b time door a cells k) ≡ numbersFrom (b .number) (length (auditOf b time door a cells k))
-  unfolding auditOf lineFor lineNumber
-  audit-numbers-of zero = refl
-  audit-numbers-of (suc k) = one-more-by k (getD cells k blankCell .staged) _ refl (audit-numbers-of k)
-
 audit-numbers-on : (x : Step) (w : World) (n : ℕ) → AuditTells n (bodyOf w) → map (λ (l : AuditLine). l .number) (auditBy x w) ≡ numbersFrom n (length (auditBy x w))
-unfolding commitLines
+unfolding commitLines audited
 audit-numbers-on (Cycle r) w n e = refl
 audit-numbers-on (Turn turn) w n e = refl
 audit-numbers-on Clear w n e = refl
 audit-numbers-on (Ask question) w n e = refl
 audit-numbers-on (Call door act) w n e = refl
 audit-numbers-on (Commit door) w n e =
-    audit-numbers-of (w .state .core .stores .audit) (w .state .core .measured .time) door (w .state .core .settings) (sessionAt (w .state) door .cells) settingCount
-    ∙ book-numbers auditLines n (length (auditBy (Commit door) w)) (w .state .core .stores .audit) e
+    numbers-on (auditLine (w .state .core .measured .time) door) (λ (l : AuditLine). l .number) (λ k c. refl) auditLines n (w .state .core .stores .audit)
+    (changesAmong (w .state .core .settings) (sessionAt (w .state) door .cells) settingCount)
+    e
 
 -- ---- from a start
 

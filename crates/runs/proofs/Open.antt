@@ -1,19 +1,18 @@
 -- Open, exactly: after any run from a start a session is open at a door exactly where the history says so, and so a begin is refused by 2, and a
 -- read, write, commit or abandon by 4, by what the history says. By the length of the run; a clause for each kind of step.
 -- Assumes nothing.
-use mathlib.Core.Path.{_≡_, refl, sym, ap, _∙_}
+use mathlib.Core.Path.{_≡_, refl, ap, _∙_}
 use mathlib.Core.Bool.{Bool, true, false, not, cond, _||_, false≢true}
 use mathlib.Core.Logic.{_↔_}
 use mathlib.Core.List.{List, [], _∷_, reverseAux}
 use Prim.Native.Nat.{ℕ}
 use native.Mathlib.Omega.{arith}
-use lib.Dec.{leb, eqb}
+use lib.Dec.{eqb}
 use lib.ListN.{length}
 use borrow.Author.Tests.{eqb-true}
 use Rattle.ground.proofs.Flags.{or-false-left, or-false-right}
 use Rattle.order.specs.Order.{run, trace}
 use Rattle.settings.specs.declared.Value.{Value}
-use Rattle.settings.specs.Settings.{orderedB}
 use Rattle.ring.specs.Ring.{auditLines}
 use Rattle.books.specs.declared.ArchiveLine.{ArchiveLine}
 use Rattle.books.specs.declared.LogLine.{LogLine}
@@ -24,12 +23,12 @@ use Rattle.state.specs.State.{noSession, fresh}
 use Rattle.state.specs.Card.{firstOf}
 use Rattle.cycle.specs.Cycle.{cycled}
 use Rattle.panel.specs.Panel.{turned, cleared, startOf, startRefusal}
-use Rattle.doors.specs.Doors.{noDoor, noSuchSetting, sessionAt, otherAt, placed, withSession, withCell, begun, readAfter, writeAfter, lockMissing, staleB, asStand, overtakenSession, committed, refusedCommit}
-use Rattle.runs.specs.Exactly.{Rows, earlier}
+use Rattle.doors.specs.Doors.{noDoor, noSuchSetting, sessionAt, otherAt, placed, withSession, withCell, begun, readAfter, writeAfter, overtakenSession, committed, endsRefused, refusedCommit}
+use Rattle.runs.specs.Exactly.{earlier}
 use Rattle.runs.specs.Rows.{rowsOf, unsound, notWhole, refusedBy}
 use Rattle.runs.specs.Run.{Step, Cycle, Turn, Clear, Ask, Call, Commit, Begin, Read, Write, Abandon, World, numberOf, step, corrector, started}
 use Rattle.runs.specs.History.{History, history}
-use Rattle.runs.specs.Open.{endsRefused, openAfter, openAt}
+use Rattle.runs.specs.Open.{openAfter, openAt}
 use Rattle.runs.proofs.Exactly.{silent}
 use Rattle.runs.proofs.Effects.{after, number-is, world-is, refused-when}
 use Rattle.runs.proofs.Stale.{each-door}
@@ -88,29 +87,17 @@ done-open (Call d (Write j v)) w z door e =
 
 -- ---- refused
 
--- of a commit's numbers those from 10 on are 10, 11 and 12, and then its door is one
-abbrev commitCard : Bool → Bool → Bool → Bool → Bool → Bool → Rows
-commitCard a b c d e f = (1, a) ∷ (3, b) ∷ (4, c) ∷ (10, d) ∷ (11, e) ∷ (12, f) ∷ []
+-- a commit that 10, 11 or 12 refuses is one at a door
+past-three : (a b : Bool) (rest : ℕ) → endsRefused (cond a 1 (cond b 3 rest)) ≡ true → b ≡ false
+past-three true b rest h = absurd (false≢true h)
+past-three false true rest h = absurd (false≢true h)
+past-three false false rest h = refl
 
-from-ten : (a b c d e f : Bool) → leb 10 (firstOf (commitCard a b c d e f)) ≡ endsRefused (firstOf (commitCard a b c d e f))
-from-ten true b c d e f = refl
-from-ten false true c d e f = refl
-from-ten false false true d e f = refl
-from-ten false false false true e f = refl
-from-ten false false false false true f = refl
-from-ten false false false false false true = refl
-from-ten false false false false false false = refl
-
-past-three : (a b c d e f : Bool) → leb 10 (firstOf (commitCard a b c d e f)) ≡ true → b ≡ false
-past-three true b c d e f h = absurd (false≢true h)
-past-three false true c d e f h = absurd (false≢true h)
-past-three false false c d e f h = refl
-
--- a commit's own; k: its number, t: whether that is one from 10 on
-ended-open : (s : State) (d k : ℕ) (t : Bool) → leb 10 k ≡ t → eqb k 0 ≡ false → leb 10 k ≡ endsRefused k → (leb 10 k ≡ true → noDoor d ≡ false) → (door : ℕ) → noDoor door ≡ false
+-- a commit's own; k: its number, t: whether that ends the session
+ended-open : (s : State) (d k : ℕ) (t : Bool) → endsRefused k ≡ t → eqb k 0 ≡ false → (endsRefused k ≡ true → noDoor d ≡ false) → (door : ℕ) → noDoor door ≡ false
     → live (cond t (withSession s d noSession) s) door ≡ openAfter door (Commit d) k (live s door)
-ended-open s d k true q z h f door e = let r : endsRefused k ≡ true = sym h ∙ q in rw (z, r) (end-live s d (f q) door e)
-ended-open s d k false q z h f door e = let r : endsRefused k ≡ false = sym h ∙ q in rw (z, r)
+ended-open s d k true q z f door e = rw (z, q) (end-live s d (f q) door e)
+ended-open s d k false q z f door e = rw (z, q)
 
 refused-open : (x : Step) (w : World) (k : ℕ) → firstOf (rowsOf x w) ≡ k → eqb k 0 ≡ false → (door : ℕ) → noDoor door ≡ false
     → live (refusedBy x w k .state) door ≡ openAfter door x k (live (w .state) door)
@@ -122,15 +109,7 @@ refused-open (Ask question) w k q z door e = refl
 refused-open (Call d Begin) w k q z door e = rw z
 refused-open (Call d Abandon) w k q z door e = rw z
 refused-open (Commit d) w k q z door e =
-    let s : State = w .state in
-    let cells = sessionAt s d .cells in
-    let a = unsound w (eqb (length (w .audit)) auditLines) in
-    let l = lockMissing (s .core .locks) cells in
-    let o = not (orderedB (asStand (s .core .settings) cells)) in
-    ended-open s d k (leb 10 k) refl z
-    (rw q at (from-ten a (noDoor d) (not (live s d)) l (staleB cells) o))
-    (rw q at (past-three a (noDoor d) (not (live s d)) l (staleB cells) o))
-    door e
+    ended-open (w .state) d k (endsRefused k) refl z (rw q at (past-three (unsound w (eqb (length (w .audit)) auditLines)) (noDoor d) _)) door e
 refused-open (Call d (Read setting)) w k q z door e = refl
 refused-open (Call d (Write setting v)) w k q z door e = refl
 

@@ -2,7 +2,7 @@
 -- Assumes nothing.
 use mathlib.Core.Path.{_≡_, refl, sym, ap, _∙_}
 use mathlib.Core.Logic.{_⊎_, inl, inr}
-use mathlib.Core.Bool.{Bool, true, false, not, cond, _&&_, false≢true}
+use mathlib.Core.Bool.{Bool, true, false, not, cond, false≢true}
 use mathlib.Core.Option.{Option, none, some}
 use mathlib.Core.List.{List, [], _∷_}
 use Prim.Native.Nat.{ℕ, _-_, _<_}
@@ -32,7 +32,7 @@ use Rattle.state.proofs.Sound.{SoundCore, whole-sound, fresh-whole, no-session}
 use Rattle.doors.proofs.Force.{unstaged-stands}
 use Rattle.doors.proofs.Stays.{session-each, read-sound, staged-sound}
 use Rattle.panel.specs.Panel.{startRefusal, startOf}
-use Rattle.doors.specs.Doors.{noSuchSetting, cellAt, withCell, begun, markedRead, stagedCell, lockMissing, staleB, asStand, overtakenSession, overtakenBy, committedCore}
+use Rattle.doors.specs.Doors.{noSuchSetting, cellAt, withCell, begun, markedRead, stagedCell, lockMissing, staleB, asStand, overtakenSession, overtakenBy, committedCore, endsRefused}
 use Rattle.runs.specs.Run.{Step, Cycle, Turn, Clear, Ask, Call, Commit, Read, Write, World, Reply, plain, numberOf, step, verdictOf, corrector, started, Body}
 use Rattle.runs.proofs.Exactly.{silent}
 use Rattle.runs.proofs.Cells.{OpenSession, open-begun, open-with, open-overtaken, at-set, each-set, stale-set, overtaken-blank, quiet-same, quiet-read}
@@ -109,17 +109,6 @@ module _ (b : Body) (t : Option Session) (s : SoundCore (b .core)) (g : Fits Ope
   outside-does (abandons {d = d} a) =
       rw (held-at d b none t) (abandon-outside a b noSession (at-slot t) (whole-at d b none t s tt g) closed-slot)
 
--- the numbers of a commit: none is above 12
-few : (p q r t : Bool) → leb (firstOf ((1, p) ∷ (10, q) ∷ (11, r) ∷ (12, t) ∷ [])) 12 ≡ true
-few true q r t = refl
-few false true r t = refl
-few false false true t = refl
-few false false false true = refl
-few false false false false = refl
-
-commit-few : (b : Body) (s : Session) → leb (firstOf (commitRows b s)) 12 ≡ true
-commit-few b s = few (not (eqb (length (b .audit)) auditLines)) (lockMissing (b .core .locks) (s .cells)) (staleB (s .cells)) (not (orderedB (asStand (b .core .settings) (s .cells))))
-
 -- the other door's session, if there is one, after a commit
 overtaken-slot : (s : Session) (t : Option Session) → overtakenSession s (at-slot t) ≡ at-slot (overtaken corrector build s t)
 unfolding overtakenSession noSession
@@ -136,15 +125,15 @@ module _ (b : Body) (s : Session) (t : Option Session) (c : SoundCore (b .core))
         (insideOf x b s) .1,
       )
 
-  commit-does : {door : ℕ} {d : Door} → AtDoor door d → (n : ℕ) → firstOf (commitRows b s) ≡ n → leb n 12 ≡ true → (z e : Bool) → eqb n 0 ≡ z → leb 10 n ≡ e
+  commit-does : {door : ℕ} {d : Door} → AtDoor door d → (n : ℕ) → firstOf (commitRows b s) ≡ n → (z e : Bool) → eqb n 0 ≡ z → endsRefused n ≡ e
       → Inside (Commit door) d Act.commit
-  commit-does {door} {d} a n q l true e z h =
+  commit-does {door} {d} a n q true e z h =
       let o : firstOf (commitRows b s) ≡ 0 = q ∙ eqb-true n 0 z in
       rw (o, held-at d b (some s) t, held-at d (forcedBy door b s) none (overtaken corrector build s t))
       (rw (overtaken-slot s t) at (commit-done a b s (at-slot t) (whole-at d b (some s) t c f g) (f .live) o))
-  commit-does {door} {d} a n q l false true z h =
-      rw (q, z, h, l, held-at d b (some s) t, held-at d b none t) (commit-ended a b s (at-slot t) (whole-at d b (some s) t c f g) (f .live) n z h q)
-  commit-does {door} {d} a n q l false false z h =
+  commit-does {door} {d} a n q false true z h =
+      rw (q, z, h, held-at d b (some s) t, held-at d b none t) (commit-ended a b s (at-slot t) (whole-at d b (some s) t c f g) (f .live) n z h q)
+  commit-does {door} {d} a n q false false z h =
       rw (q, z, h, held-at d b (some s) t) (commit-refused a b s (at-slot t) (whole-at d b (some s) t c f g) (f .live) n z h q)
 
   inside-does : {x : Step} {d : Door} {y : Act} → AtCall x d y → Inside x d y
@@ -157,7 +146,7 @@ module _ (b : Body) (s : Session) (t : Option Session) (c : SoundCore (b .core))
       (write-inside a b s (at-slot t) (whole-at d b (some s) t c f g) (f .live) setting v)
   inside-does (commits {door = door} {d = d} a) =
       let n = firstOf (commitRows b s) in
-      commit-does a n refl (commit-few b s) (eqb n 0) (leb 10 n) refl refl
+      commit-does a n refl (eqb n 0) (endsRefused n) refl refl
   inside-does (abandons {d = d} a) =
       rw (held-at d b (some s) t, held-at d b none t) (abandon-inside a b s (at-slot t) (whole-at d b (some s) t c f g) (f .live))
 
@@ -249,13 +238,13 @@ not-committed p q = let z : _≡_ {A = ℕ} 0 1 = cc in omega arith
 not-dropped : {k : Fate} → k ≡ dropped → k ≡ committed → ⊥
 not-dropped p q = let z : _≡_ {A = ℕ} 0 1 = cc in omega arith
 
-done-by : (n : ℕ) (z e : Bool) → eqb n 0 ≡ z → (leb 10 n && leb n 12) ≡ e → fate Act.commit (verdictOf n) ≡ committed → n ≡ 0
+done-by : (n : ℕ) (z e : Bool) → eqb n 0 ≡ z → endsRefused n ≡ e → fate Act.commit (verdictOf n) ≡ committed → n ≡ 0
 done-by n true e p q h = eqb-true n 0 p
 done-by n false true p q h = absurd (not-dropped refl (rw (p, q) at h))
 done-by n false false p q h = absurd (not-committed refl (rw (p, q) at h))
 
 commit-zero : (n : ℕ) → fate Act.commit (verdictOf n) ≡ committed → n ≡ 0
-commit-zero n h = done-by n (eqb n 0) (leb 10 n && leb n 12) refl refl h
+commit-zero n h = done-by n (eqb n 0) (endsRefused n) refl refl h
 
 -- a session goes on after a commit only where the audit trail has not its length
 goes-by : (q r t : Bool) → fate Act.commit (verdictOf (firstOf ((1, false) ∷ (10, q) ∷ (11, r) ∷ (12, t) ∷ []))) ≡ goesOn → ⊥

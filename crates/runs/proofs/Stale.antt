@@ -7,7 +7,7 @@ use mathlib.Core.Logic.{_↔_}
 use mathlib.Core.List.{List, [], _∷_, reverseAux}
 use Prim.Native.Nat.{ℕ, zero, suc, _+_, _-_, _<_}
 use native.Mathlib.Omega.{arith}
-use lib.Dec.{ltb, leb, eqb}
+use lib.Dec.{ltb, eqb}
 use lib.ListN.{length, getD, replicate, length-set}
 use lib.Seq.{getD-set-same, getD-set-other}
 use borrow.Author.Tests.{eqb-true, eqb-false, eq-eqb, ltb-false, le-ltb}
@@ -28,7 +28,7 @@ use Rattle.state.specs.Card.{firstOf}
 use Rattle.state.proofs.Card.{not-false}
 use Rattle.cycle.specs.Cycle.{cycled}
 use Rattle.panel.specs.Panel.{turned, cleared, startOf, startRefusal}
-use Rattle.doors.specs.Doors.{noDoor, noSuchSetting, sessionAt, otherAt, placed, withSession, cellAt, withCell, begun, markedRead, readAfter, stagedCell, writeAfter, lockMissing, overtakenAt, staleB, markedBy, overtakenSession, committed, refusedCommit}
+use Rattle.doors.specs.Doors.{noDoor, noSuchSetting, sessionAt, otherAt, placed, withSession, cellAt, withCell, begun, markedRead, readAfter, stagedCell, writeAfter, lockMissing, overtakenAt, staleB, markedBy, overtakenSession, committed, endsRefused, refusedCommit}
 use Rattle.doors.proofs.Force.{marks-at}
 use Rattle.runs.specs.Exactly.{earlier}
 use Rattle.runs.specs.Rows.{rowsOf, unsound, refusedBy}
@@ -335,7 +335,7 @@ refused-both Clear w n past b = b
 refused-both (Ask question) w n past b = b
 refused-both (Call door act) w n past b = b
 refused-both (Commit door) w n past b =
-    let (p, q) = ended-both w past door b (eqb door 1) (leb 10 n) refl (refusedBy (Commit door) w n .state) refl in
+    let (p, q) = ended-both w past door b (eqb door 1) (endsRefused n) refl (refusedBy (Commit door) w n .state) refl in
     record { keypad = p; port = q }
 
 step-both-by : (x : Step) (w : World) (past : History) (a : Reply) (k : ℕ) → firstOf (rowsOf x w) ≡ k → numberOf a ≡ k → (t : Bool) → eqb k 0 ≡ t → Both w past

@@ -5,12 +5,9 @@ use Prim.Native.Nat.{ℕ}
 use mathlib.Core.Bool.{Bool, true, false, cond, _&&_, _||_}
 use mathlib.Core.List.{[], _∷_}
 use lib.Dec.{eqb}
+use Rattle.doors.specs.Doors.{endsRefused}
 use Rattle.runs.specs.Run.{Step, Cycle, Turn, Clear, Ask, Call, Commit, Begin, Read, Write, Abandon, numberOf}
 use Rattle.runs.specs.History.{History}
-
--- the refusals of a commit that also end its session
-abbrev pub endsRefused : ℕ → Bool
-endsRefused n = eqb n 10 || (eqb n 11 || eqb n 12)
 
 -- whether a session is open at the door after a step that had the number n, by whether one was before it
 abbrev pub openAfter : ℕ → Step → ℕ → Bool → Bool

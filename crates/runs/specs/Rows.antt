@@ -3,19 +3,19 @@
 -- Assumes nothing.
 use Prim.Native.Nat.{ℕ, _-_}
 use mathlib.Core.Bool.{Bool, true, not, cond, _&&_, _||_}
-use mathlib.Core.List.{[], _∷_}
+use mathlib.Core.List.{List, [], _∷_}
 use lib.Dec.{ltb, leb, eqb}
 use lib.ListN.{length, getD}
 use Rattle.calendar.specs.Calendar.{endOfTime}
 use Rattle.units.specs.Units.{mostPulses}
 use Rattle.settings.specs.Settings.{fitsB, orderedB}
 use Rattle.ring.specs.declared.Ring.{Ring}
-use Rattle.ring.specs.Ring.{archiveLines, logLines, auditLines, placeOf}
+use Rattle.ring.specs.Ring.{archiveLines, logLines, auditLines}
+use Rattle.ring.specs.Store.{heldLines}
 use Rattle.books.specs.Books.{noArchive, noLog, noAudit}
 use Rattle.state.specs.declared.Locks.{Locks}
 use Rattle.state.specs.declared.State.{State}
 use Rattle.state.specs.State.{wholeB}
-use Rattle.asked.specs.Asked.{isHeld, slotOf}
 use Rattle.cycle.specs.Cycle.{amountsFor, isTooLarge}
 use Rattle.panel.specs.Panel.{noLock, rightCode, reported}
 use Rattle.doors.specs.Doors.{noDoor, noSuchSetting, sessionAt, lockMissing, staleB, asStand, refusedCommit}
@@ -40,17 +40,17 @@ pub record Asked : Type 0 where
   pub rows : Rows
   pub gives : Given
 
--- 13: the line asked for is not held
-abbrev pub askedLine : ℕ → ℕ → Ring → ℕ → Given → Asked
-askedLine size lines r i v = record { lent = eqb lines size; rows = (13, not (isHeld (placeOf size r i))) ∷ []; gives = v }
+-- line i, counted from 0, of the lines held, newest first. 13: i is not below the number of lines held
+abbrev pub askedLine : {A : Type 0} → (A → Given) → ℕ → A → Ring → List A → ℕ → Asked
+askedLine give size none r l i =
+    let lines = heldLines size none r l in
+    record { lent = eqb (length l) size; rows = (13, not (ltb i (length lines))) ∷ []; gives = give (getD lines i none) }
 
 abbrev pub asking : Question → Body → Asked
 asking question.Report b = record { lent = true; rows = []; gives = given.Report (reported (b .core)) }
-asking (question.Archive i) b =
-    askedLine archiveLines (length (b .archive)) (b .core .stores .archive) i (given.Archive (getD (b .archive) (slotOf (placeOf archiveLines (b .core .stores .archive) i)) noArchive))
-asking (question.Log i) b = askedLine logLines (length (b .log)) (b .core .stores .log .ring) i (given.Log (getD (b .log) (slotOf (placeOf logLines (b .core .stores .log .ring) i)) noLog))
-asking (question.Audit i) b =
-    askedLine auditLines (length (b .audit)) (b .core .stores .audit .ring) i (given.Audit (getD (b .audit) (slotOf (placeOf auditLines (b .core .stores .audit .ring) i)) noAudit))
+asking (question.Archive i) b = askedLine given.Archive archiveLines noArchive (b .core .stores .archive) (b .archive) i
+asking (question.Log i) b = askedLine given.Log logLines noLog (b .core .stores .log .ring) (b .log) i
+asking (question.Audit i) b = askedLine given.Audit auditLines noAudit (b .core .stores .audit .ring) (b .audit) i
 
 -- ---- the rest
 

@@ -2,9 +2,9 @@
 -- contracts of the program's own functions cite. A start is no step: a run begins with a device that was started.
 -- Assumes nothing.
 use Prim.Native.Nat.{ℕ}
-use mathlib.Core.Bool.{Bool, true, false, cond, _&&_}
+use mathlib.Core.Bool.{Bool, true, false, cond}
 use mathlib.Core.List.{List}
-use lib.Dec.{leb, eqb}
+use lib.Dec.{eqb}
 use Rattle.order.specs.Order.{keypad, port, Role, aside, at, Verdict, done, ended, refused, Device}
 use Rattle.order.specs.Order as order
 use Rattle.books.specs.declared.ArchiveLine.{ArchiveLine}
@@ -14,7 +14,7 @@ use Rattle.state.specs.declared.Core.{Core}
 use Rattle.state.specs.State.{noSession}
 use Rattle.commands.specs.declared.Brought.{Brought}
 use Rattle.panel.specs.Panel.{startOf}
-use Rattle.doors.specs.Doors.{noDoor}
+use Rattle.doors.specs.Doors.{noDoor, endsRefused}
 pub use Rattle.commands.specs.declared.LockTurn.{LockTurn}
 pub use Rattle.commands.specs.declared.LockTurn.the-variants.{Open, Shut}
 pub use Rattle.commands.specs.declared.Question.{Question}
@@ -88,7 +88,7 @@ role (Commit door) = roleAt door order.Act.commit
 
 -- 10, 11 and 12 at a commit also end its session
 abbrev pub verdictOf : ℕ → Verdict
-verdictOf n = cond (eqb n 0) done (cond (leb 10 n && leb n 12) ended refused)
+verdictOf n = cond (eqb n 0) done (cond (endsRefused n) ended refused)
 
 -- the state with its unfinished sessions taken away
 abbrev pub closed : World → World

@@ -1,7 +1,8 @@
--- What a whole state says, part by part, and back. A fresh state is whole.
+-- What a whole state says, part by part, and back. The test on the stores passes exactly where some number of lines gives each. A fresh state is whole.
 -- Assumes nothing.
 use mathlib.Core.Path.{_≡_, refl}
 use mathlib.Core.Bool.{Bool, true, _&&_}
+use mathlib.Core.Logic.{_↔_}
 use Prim.Native.Nat.{ℕ, _<_}
 use native.Mathlib.Omega.{arith}
 use lib.Dec.{ltb, eqb}
@@ -12,12 +13,36 @@ use Rattle.settings.specs.Settings.{settingsFitB, orderedB}
 use Rattle.settings.proofs.Laws.{factory-fits, factory-ordered}
 use Rattle.calendar.specs.Calendar.{endOfTime, monthOf}
 use Rattle.ring.specs.Ring.{archiveLines, logLines, auditLines, logStep, auditStep, ringAfter, bookAfter, ringB, bookB}
-use Rattle.ring.proofs.Whole.{ring-passes, book-passes, log-common, audit-common}
+use Rattle.ring.proofs.Whole.{ring-passes, book-passes, log-common, audit-common, archive-whole, log-whole, audit-whole}
 use Rattle.state.specs.declared.Measured.{Measured}
+use Rattle.state.specs.declared.Stores.{Stores}
 use Rattle.state.specs.declared.Core.{Core}
 use Rattle.state.specs.declared.Locks.{Locks}
 use Rattle.state.specs.declared.State.{State}
-use Rattle.state.specs.State.{noSession, noAlarm, nothingCounted, shutLocks, freshCore, fresh, countersB, latchedB, storesB, measuredB, cellB, cellsB, sessionB, coreB, wholeB}
+use Rattle.state.specs.State.{noSession, noAlarm, nothingCounted, shutLocks, freshCore, fresh, countersB, latchedB, StoresFromFresh, storesB, measuredB, cellB, cellsB, sessionB, coreB, wholeB}
+
+-- ---- the stores
+
+stores-from : (x : Stores) → storesB x ≡ true → StoresFromFresh x
+unfolding storesB
+stores-from x e =
+    let a : Bool = ringB archiveLines (x .archive) in
+    let l : Bool = bookB logLines logStep (x .log) in
+    let t : Bool = bookB auditLines auditStep (x .audit) in
+    let two : (a && l) ≡ true = and-left (a && l) t e in
+    record {
+      archive = (archive-whole (x .archive)) .0 (and-left a l two);
+      log = (log-whole (x .log)) .0 (and-right a l two);
+      audit = (audit-whole (x .audit)) .0 (and-right (a && l) t e);
+    }
+
+stores-pass : (x : Stores) → StoresFromFresh x → storesB x ≡ true
+unfolding storesB
+stores-pass x f = rw ((archive-whole (x .archive)) .1 (f .archive), (log-whole (x .log)) .1 (f .log), (audit-whole (x .audit)) .1 (f .audit))
+
+-- THE TEST ON THE STORES PASSES EXACTLY WHERE some number of lines written from fresh gives what the state says of each
+pub stores-from-fresh : (x : Stores) → (storesB x ≡ true) ↔ StoresFromFresh x
+stores-from-fresh x = (stores-from x, stores-pass x)
 
 -- ---- the core
 

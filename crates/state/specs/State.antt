@@ -11,7 +11,7 @@ use Rattle.units.specs.Units.{litresRollover, baseRollover}
 use Rattle.settings.specs.Settings.{settingCount, fitsB, settingsFitB, orderedB, factorySettings}
 use Rattle.settings.specs.declared.Value.the-variants.{Whole}
 use Rattle.calendar.specs.Calendar.{endOfTime, monthOf}
-use Rattle.ring.specs.Ring.{archiveLines, logLines, auditLines, logStep, auditStep, ringAfter, bookAfter, ringB, bookB}
+use Rattle.ring.specs.Ring.{archiveLines, logLines, auditLines, logStep, auditStep, ringAfter, bookAfter, FromFresh, ringB, bookB}
 use Rattle.state.specs.declared.Counters.{Counters}
 use Rattle.state.specs.declared.Alarms.{Alarms}
 use Rattle.state.specs.declared.Locks.{Locks}
@@ -62,17 +62,30 @@ countersB c = ltb (c .vm .0) litresRollover && ltb (c .vmd .0) litresRollover &&
 
 -- each present alarm is latched
 unfoldable pub latchedB : Alarms → Alarms → Bool
-latchedB present latch = (not (present .p) || latch .p) && (not (present .t) || latch .t) && (not (present .k) || latch .k)
+latchedB present latch =
+    (not (present .p) || latch .p)
+    && (not (present .t) || latch .t)
+    && (not (present .k) || latch .k)
 
--- what the state says of each store is what some number of lines written to it from fresh would give (the law that it is
--- stands with the rings)
+-- what the state says of each store is what some number of lines written to it from fresh would give
+pub record StoresFromFresh (x : Stores) : Type 0 where
+  pub archive : FromFresh (ringAfter archiveLines) (x .archive)
+  pub log : FromFresh (bookAfter logLines) (x .log)
+  pub audit : FromFresh (bookAfter auditLines) (x .audit)
+
+-- The same as a test that can be computed. It passes exactly where `StoresFromFresh` holds: `stores-from-fresh` in crates/state/proofs/Sound.antt.
 unfoldable pub storesB : Stores → Bool
 storesB x = ringB archiveLines (x .archive) && bookB logLines logStep (x .log) && bookB auditLines auditStep (x .audit)
 
--- of setting k + 1 in a session: a staged value is in range; one marked as put in force through the other door also counts as read; a door
--- with no session has nothing staged or read
+-- of setting k + 1 in the session at a door; `live` says whether a session is open there
 unfoldable pub cellB : Bool → ℕ → Cell → Bool
-cellB live k c = (not (c .staged) || fitsB k (c .value)) && (not (c .overtaken) || c .read) && (not (c .staged || c .read) || live)
+cellB live k c =
+    -- staged values are in range
+    (not (c .staged) || fitsB k (c .value))
+    -- a setting marked as put in force through the other door also counts as read
+    && (not (c .overtaken) || c .read)
+    -- a door with no session has nothing staged or read
+    && (not (c .staged || c .read) || live)
 
 unfoldable pub cellsB : Bool → List Cell → ℕ → Bool
 cellsB live cells k = cellB live k (getD cells k blankCell)
@@ -84,10 +97,15 @@ sessionB x = allBelow (cellsB (x .live) (x .cells)) settingCount
 unfoldable pub measuredB : Measured → Bool
 measuredB m = ltb (m .time) endOfTime && countersB (m .counters) && eqb (m .month) (monthOf (m .time))
 
--- so are the settings, the pairs are in order, each present alarm is latched, and the stores
+-- all that is no session
 unfoldable pub coreB : Core → Bool
 coreB c =
-    measuredB (c .measured) && settingsFitB (c .settings) && orderedB (c .settings) && latchedB (c .measured .alarms) (c .latches)
+    measuredB (c .measured)
+    -- settings are in range
+    && settingsFitB (c .settings)
+    -- the pairs 7/8 and 9/10 are in order
+    && orderedB (c .settings)
+    && latchedB (c .measured .alarms) (c .latches)
     && storesB (c .stores)
 
 unfoldable pub wholeB : State → Bool

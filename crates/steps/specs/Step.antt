@@ -37,21 +37,19 @@ logs w o = (record { state = o .answer .state; archive = w .archive; log = o .lo
 abbrev pub audits : World → Outcome → World × Reply
 audits w o = (record { state = o .answer .state; archive = w .archive; log = w .log; audit = o .audit }, o .answer .reply)
 
--- ---- the groups; `sound` says whether the state is whole
+-- ---- the groups
 
 abbrev pub lockTurned : LockTurn → World → Outcome
 lockTurned (Open lock code) w = panel.openOf (w .state) lock code (w .log)
 lockTurned (Shut lock) w = panel.shutOf (w .state) lock (w .log)
 
-abbrev pub replyBy : Bool → Question → World → Reply
-replyBy sound question.Report w = panel.reportBy sound (w .state)
-replyBy sound (question.Archive i) w = panel.archiveLineBy sound (w .state) i (w .archive)
-replyBy sound (question.Log i) w = panel.logLineBy sound (w .state) i (w .log)
-replyBy sound (question.Audit i) w = doors.auditLineBy sound (w .state) i (w .audit)
-
 abbrev pub replyTo : Question → World → Reply
-replyTo q w = replyBy (wholeB (w .state)) q w
+replyTo question.Report w = panel.reportOf (w .state)
+replyTo (question.Archive i) w = panel.archiveLineOf (w .state) i (w .archive)
+replyTo (question.Log i) w = panel.logLineOf (w .state) i (w .log)
+replyTo (question.Audit i) w = doors.auditLineOf (w .state) i (w .audit)
 
+-- `sound` says whether the state is whole
 abbrev pub calledBy : Bool → State → ℕ → Act → Answer
 calledBy sound s door Begin = doors.beginBy sound s door
 calledBy sound s door (Read setting) = doors.readBy sound s door setting
