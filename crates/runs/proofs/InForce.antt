@@ -36,7 +36,7 @@ use Rattle.runs.specs.Stale.{Deed, deed}
 use Rattle.runs.specs.InForce.{lastWritten, forcedBy, inForce, settingOf, settingsIn}
 use Rattle.runs.proofs.Exactly.{silent}
 use Rattle.runs.proofs.Effects.{after, number-is, world-is, refused-body}
-use Rattle.runs.proofs.Stale.{Known, Both, step-both, fresh-both, each-door, in-table}
+use Rattle.runs.proofs.Stale.{Known, Both, step-both, fresh-both, known-at, in-table}
 
 -- ---- what the state keeps, and what the history says
 
@@ -77,17 +77,13 @@ module _ (w : World) (past : History) (b : Both w past) (h : Forced w past) (a :
     tells = λ k l. ap (λ (s : List Setting). valueAt s k) e ∙ h .tells k l ∙ sym (f k);
   }
 
-  known : (door : ℕ) → noDoor door ≡ false → Known door (sessionAt (w .state) door) past
-  unfolding sessionAt
-  known = each-door (λ door. Known door (sessionAt (w .state) door) past) (b .keypad) (b .port)
-
   commit-forced : (door : ℕ) → noDoor door ≡ false → sessionAt (w .state) door .live ≡ true → Forced (after (Commit door) w) ((Commit door, a) ∷ past)
   unfolding committed committedCore placed
   commit-forced door e live = record {
     sized = stand-length (w .state .core .settings) (sessionAt (w .state) door .cells) ∙ h .sized;
     tells = λ k l.
         rw done
-        (stood-at door (sessionAt (w .state) door) past (known door e) live (w .state .core .settings) k (h .sized) l
+        (stood-at door (sessionAt (w .state) door) past (known-at w past b door e) live (w .state .core .settings) k (h .sized) l
         ∙ ap (λ (v : Value). lastWritten door (k + 1) v past) (h .tells k l));
   }
 

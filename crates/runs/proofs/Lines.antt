@@ -4,38 +4,46 @@
 use mathlib.Core.Path.{_≡_, refl, sym, ap, _∙_}
 use mathlib.Core.Bool.{Bool, true, false, cond}
 use mathlib.Core.List.{List, [], _∷_, _++_, append-assoc, append-nil, reverse}
-use Prim.Native.Nat.{ℕ, _+_, _%_, _<_}
-use native.Mathlib.Nat.{add-zero, zero-add, mod-mod}
+use Prim.Native.Nat.{ℕ, zero, suc, _+_, _-_, _%_, _≤_, _<_}
+use native.Mathlib.Nat.{add-zero, zero-add, add-mod, mod-mod}
 use native.Mathlib.Omega.{arith}
 use lib.Dec.{eqb}
 use borrow.Author.Tests.{eqb-true}
-use lib.ListN.{length, length-append, take}
+use lib.ListN.{length, length-append, take, getD}
 use Rattle.order.specs.Order.{run}
 use Rattle.ring.specs.declared.Ring.{Ring}
 use Rattle.ring.specs.declared.Book.{Book}
 use Rattle.calendar.specs.Calendar.{monthOf}
+use Rattle.settings.specs.declared.Value.{Value}
+use Rattle.settings.specs.Settings.{settingCount, noSetting}
 use Rattle.ring.specs.Ring.{archiveLines, logLines, auditLines, numbers, ringAfter, bookAfter, advancedBook}
 use Rattle.ring.specs.Store.{written}
 use Rattle.ring.proofs.Fresh.{ring-advances, book-advances}
 use Rattle.ring.proofs.Stores.{fresh-written, more-written}
 use Rattle.state.specs.Card.{firstOf}
-use Rattle.state.specs.State.{fresh, freshCore}
-use Rattle.notes.specs.Notes.{numbered, logLine, logged}
-use Rattle.notes.proofs.Laws.{numbered-length, numbered-mod}
+use Rattle.state.specs.declared.Cell.{Cell}
+use Rattle.state.specs.declared.Session.{Session}
+use Rattle.state.specs.State.{blankCell, fresh, freshCore}
+use Rattle.state.proofs.Card.{not-false}
+use Rattle.notes.specs.Notes.{keep, numbered, logLine, logged}
+use Rattle.notes.proofs.Laws.{numbered-length}
 use Rattle.cycle.specs.Cycle.{monthLines, changes, alarmsFor, cycledCore, cycled}
 use Rattle.panel.specs.Panel.{lockIn, turnCodes, turnedCore, turned, cleared, startOf, startRefusal}
-use Rattle.doors.specs.Doors.{placed, withSession, readAfter, writeAfter, committedCore, committed}
+use Rattle.doors.specs.Doors.{noDoor, sessionAt, cellAt, placed, withSession, readAfter, writeAfter, Change, changesAmong, auditLine, audited, commitLines, committedCore, committed}
 use Rattle.books.specs.declared.ArchiveLine.{ArchiveLine}
 use Rattle.books.specs.declared.LogLine.{LogLine}
 use Rattle.books.specs.declared.AuditLine.{AuditLine}
 use Rattle.runs.specs.Run.{Step, Cycle, Turn, Clear, Ask, Call, Commit, onCycle, World, lockOf, opensIt, numberOf, step, corrector, started, Body, bodyOf}
 use Rattle.runs.specs.Rows.{rowsOf, refusedBy}
 use Rattle.runs.specs.History.{History, history, lastTime, startTime}
-use Rattle.runs.specs.InForce.{settingsIn}
+use Rattle.runs.specs.Stale.{hasStaged}
+use Rattle.runs.specs.InForce.{inForce, settingsIn, seenAt}
 use Rattle.runs.specs.Locks.{lockAt}
 use Rattle.runs.specs.Latches.{foundIn}
-use Rattle.runs.specs.Lines.{Shelf, archiveFor, archiveShelf, logFor, logShelf, auditFor, auditShelf, wroteIn, holds}
+use Rattle.runs.specs.Lines.{Shelf, archiveFor, archiveShelf, logFor, logShelf, changesIn, auditFor, auditShelf, wroteIn, holds}
 use Rattle.runs.proofs.Effects.{after, number-is, world-is, refused-body}
+use Rattle.runs.proofs.Exactly.{silent}
+use Rattle.runs.proofs.Stale.{Known, known-at, in-table}
 use Rattle.runs.proofs.InForce.{Agreed, all-forced}
 use Rattle.runs.proofs.Locks.{said-in, turned-lock}
 use Rattle.runs.proofs.Told.{Told, month-told, counters-told, from-start-told}
@@ -82,6 +90,20 @@ module _ (S : Shelf) (K : Kept S) where
 
     holding-step : Holding l ys (bodyOf w) → Holding l (ys ++ cond (eqb (numberOf ((step x w) .1)) 0) more []) (bodyOf ((step x w) .0))
     holding-step o = let k = firstOf (rowsOf x w) in rw (number-is x w, world-is x w) (holding-by k refl (eqb k 0) refl o)
+
+-- ---- a book into which n lines were written numbers the next ones from n on
+
+module _ {A B : Type 0} (line : ℕ → A → B) where
+  numbered-mod : (n m : ℕ) (xs : List A) → n % numbers ≡ m % numbers → numbered line n xs ≡ numbered line m xs
+  unfolding numbered
+  numbered-mod n m [] e = refl
+  numbered-mod n m (x ∷ xs) e =
+      let s : (n + 1) % numbers ≡ (m + 1) % numbers = add-mod n 1 numbers ∙ ap (λ (j : ℕ). (j + 1 % numbers) % numbers) e ∙ sym (add-mod m 1 numbers) in
+      rw (e, numbered-mod (n + 1) (m + 1) xs s)
+
+  numbered-from : (size n : ℕ) (b : Book) (xs : List A) → b ≡ bookAfter size n → numbered line (b .number) xs ≡ numbered line n xs
+  unfolding bookAfter
+  numbered-from size n b xs e = rw e (numbered-mod (n % numbers) n xs (mod-mod n numbers))
 
 -- ---- the archive
 
@@ -173,10 +195,9 @@ pub book-ring : (size n : ℕ) (b : Book) → b ≡ bookAfter size n → b .ring
 unfolding bookAfter
 book-ring size n b e = ap (λ (x : Book). x .ring) e
 
--- a book into which n lines were written numbers the next ones from n on
-pub logged-from : (n time : ℕ) (b : Book) (codes : List ℕ) → b ≡ bookAfter logLines n → logged b time codes ≡ numbered (logLine time) n codes
-unfolding logged bookAfter
-logged-from n time b codes e = rw e (numbered-mod (logLine time) (n % numbers) n codes (mod-mod n numbers))
+logged-from : (n time : ℕ) (b : Book) (codes : List ℕ) → b ≡ bookAfter logLines n → logged b time codes ≡ numbered (logLine time) n codes
+unfolding logged
+logged-from n time b codes e = numbered-from (logLine time) logLines n b codes e
 
 log-by-history : (t a b n : ℕ) (x : Step) (w : World) (past : History) → Agreed w past → Told t a b w past → LogTells n (bodyOf w) → firstOf (rowsOf x w) ≡ 0
     → logBy x w ≡ logFor t n x past
@@ -237,6 +258,47 @@ audit-stores Clear w = refl
 audit-stores (Ask question) w = refl
 audit-stores (Call door act) w = refl
 audit-stores (Commit door) w = refl
+
+-- the settings that a commit puts in force, by the session's cells and by the history
+same-change : (k : ℕ) (t : Bool) (a b u v : Value) → a ≡ b → (t ≡ true → u ≡ v)
+    → keep {A = Change} t (record { setting = k; old = a; new = u }) ≡ keep t (record { setting = k; old = b; new = v })
+same-change k true a b u v e f = rw (e, f refl)
+same-change k false a b u v e f = refl
+
+module _ (door : ℕ) (w : World) (past : History) (h : Agreed w past) (m : Session) (known : Known door m past) (live : m .live ≡ true) where
+  one-change : (k : ℕ) → k < settingCount
+      → keep {A = Change} (getD (m .cells) k blankCell .staged) (record { setting = k + 1; old = getD (w .state .core .settings) k noSetting .value; new = getD (m .cells) k blankCell .value })
+      ≡ keep (hasStaged door (k + 1) past) (record { setting = k + 1; old = inForce (k + 1) past; new = seenAt door (k + 1) past })
+  unfolding cellAt
+  one-change k l =
+      let p : k + 1 - 1 ≡ k = omega arith in
+      let marks = known .tells live (k + 1) (in-table k l) in
+      let c : Cell = getD (m .cells) k blankCell in
+      let staged : c .staged ≡ hasStaged door (k + 1) past = rw p at (marks .staged) in
+      let value : cond (c .staged) (c .value) (inForce (k + 1) past) ≡ seenAt door (k + 1) past = rw p at (marks .value (inForce (k + 1) past)) in
+      rw (← staged) (same-change (k + 1) (c .staged) _ _ _ _ (h .force .tells k l) (λ t. (rw t at value)))
+
+  changes-told : (n : ℕ) → n ≤ settingCount → changesAmong (w .state .core .settings) (m .cells) n ≡ changesIn door past n
+  unfolding changesAmong changesIn
+  changes-told zero l = refl
+  changes-told (suc k) l = rw (changes-told k (omega arith), one-change k (omega arith))
+
+commit-told : (t a b n : ℕ) (door : ℕ) (w : World) (past : History) → Agreed w past → Told t a b w past → AuditTells n (bodyOf w) → noDoor door ≡ false
+    → sessionAt (w .state) door .live ≡ true → commitLines (w .state) door ≡ numbered (auditLine (lastTime t past) door) n (changesIn door past settingCount)
+unfolding commitLines audited
+commit-told t a b n door w past h s e d live =
+    rw (s .time, changes-told door w past h (sessionAt (w .state) door) (known-at w past (h .sessions) door d) live settingCount (omega arith))
+    (numbered-from (auditLine (lastTime t past) door) auditLines n (w .state .core .stores .audit) (changesIn door past settingCount) e)
+
+audit-by-history : (t a b n : ℕ) (x : Step) (w : World) (past : History) → Agreed w past → Told t a b w past → AuditTells n (bodyOf w) → firstOf (rowsOf x w) ≡ 0
+    → auditBy x w ≡ auditFor t n x past
+audit-by-history t a b n (Cycle r) w past h s e z = refl
+audit-by-history t a b n (Turn turn) w past h s e z = refl
+audit-by-history t a b n Clear w past h s e z = refl
+audit-by-history t a b n (Ask question) w past h s e z = refl
+audit-by-history t a b n (Call door act) w past h s e z = refl
+audit-by-history t a b n (Commit door) w past h s e z =
+    commit-told t a b n door w past h s e (silent (rowsOf (Commit door) w) refl z 3) (not-false (sessionAt (w .state) door .live) (silent (rowsOf (Commit door) w) refl z 4))
 
 abbrev pub auditKept : Kept auditShelf
 auditKept = record {

@@ -36,7 +36,7 @@ use Rattle.runs.specs.Stale.{hasStaged}
 use Rattle.runs.specs.InForce.{lastWritten, inForce, settingOf, seenAt, wouldStand}
 use Rattle.runs.proofs.Exactly.{silent}
 use Rattle.runs.proofs.Effects.{step-is, number-is, refused-when}
-use Rattle.runs.proofs.Stale.{Known, each-door, in-table}
+use Rattle.runs.proofs.Stale.{Known, known-at}
 use Rattle.runs.proofs.InForce.{Agreed, agreed, in-force-exactly, stood-at}
 use Rattle.runs.proofs.Open.{open-exactly}
 
@@ -57,10 +57,7 @@ module _ (time supcode custcode : ℕ) (archive : List ArchiveLine) (log : List 
   past = history xs start
 
   known : (door : ℕ) → noDoor door ≡ false → Known door (sessionAt (end .state) door) past
-  unfolding sessionAt
-  known =
-      let b = agreed time supcode custcode archive log audit xs .sessions in
-      each-door (λ door. Known door (sessionAt (end .state) door) past) (b .keypad) (b .port)
+  known = known-at end past (agreed time supcode custcode archive log audit xs .sessions)
 
   is-open : (door : ℕ) → noDoor door ≡ false → sessionAt (end .state) door .live ≡ openAt door past
   is-open door e = open-exactly xs time supcode custcode archive log audit door e

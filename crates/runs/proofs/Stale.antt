@@ -241,6 +241,11 @@ each-door P p q (suc (suc zero)) e = q
 each-door P p q (suc (suc (suc n))) e =
     absurd (omega (arith, ltb-false 2 (suc (suc (suc n))) (or-false-right (ltb (suc (suc (suc n))) 1) (ltb 2 (suc (suc (suc n)))) e)))
 
+-- the session at a door
+pub known-at : (w : World) (past : History) → Both w past → (door : ℕ) → noDoor door ≡ false → Known door (sessionAt (w .state) door) past
+unfolding sessionAt
+known-at w past b = each-door (λ door. Known door (sessionAt (w .state) door) past) (b .keypad) (b .port)
+
 module _ (w : World) (past : History) (b : Both w past) (a : Reply) (done : eqb (numberOf a) 0 ≡ true) where
   begin-both : (door : ℕ) → noDoor door ≡ false → Both (after (Call door Begin) w) ((Call door Begin, a) ∷ past)
   unfolding withSession placed otherAt
@@ -386,9 +391,8 @@ module _ (xs : List Step) (time supcode custcode : ℕ) (archive : List ArchiveL
       let (p, q) = fresh-both (eqb (startRefusal time) 0) time supcode custcode in
       run-both xs start [] (record { keypad = p; port = q })
 
-  pub known : (door : ℕ) → noDoor door ≡ false → Known door (sessionAt (end .state) door) (history xs start)
-  unfolding sessionAt
-  known = each-door (λ door. Known door (sessionAt (end .state) door) (history xs start)) (both .keypad) (both .port)
+  known : (door : ℕ) → noDoor door ≡ false → Known door (sessionAt (end .state) door) (history xs start)
+  known = known-at end (history xs start) both
 
   -- WHAT AN OPEN SESSION'S CELLS SAY OF A SETTING IS WHAT THE HISTORY SAYS: staged and at which value, read, overtaken
   pub marks-exactly : (door setting : ℕ) → noDoor door ≡ false → noSuchSetting setting ≡ false → sessionAt (end .state) door .live ≡ true

@@ -6,6 +6,7 @@ use mathlib.Core.List.{List, [], _∷_, _++_}
 use lib.ListN.{length}
 use Rattle.units.specs.Units.{litresShown, baseShown}
 use Rattle.calendar.specs.Calendar.{monthOf}
+use Rattle.settings.specs.Settings.{settingCount}
 use Rattle.ring.specs.declared.Ring.{Ring}
 use Rattle.ring.specs.Ring.{archiveLines, logLines, auditLines, numbers}
 use Rattle.ring.specs.Store.{heldLines}
@@ -14,12 +15,14 @@ use Rattle.books.specs.declared.LogLine.{LogLine}
 use Rattle.books.specs.declared.AuditLine.{AuditLine}
 use Rattle.books.specs.Books.{noArchive, noLog, noAudit}
 use Rattle.state.specs.declared.Counters.{Counters}
-use Rattle.notes.specs.Notes.{numbered}
+use Rattle.notes.specs.Notes.{keep, numbered, logLine}
 use Rattle.cycle.specs.Cycle.{monthLines, alarmsFor, changes}
 use Rattle.panel.specs.Panel.{turnCodes}
+use Rattle.doors.specs.Doors.{Change, auditLine}
 use Rattle.runs.specs.Run.{Step, Cycle, Turn, Clear, Ask, Call, Commit, onCycle, World, lockOf, opensIt}
 use Rattle.runs.specs.History.{History, done, lastTime}
-use Rattle.runs.specs.InForce.{settingsIn}
+use Rattle.runs.specs.Stale.{hasStaged}
+use Rattle.runs.specs.InForce.{inForce, settingsIn, seenAt}
 use Rattle.runs.specs.Locks.{lockAt}
 use Rattle.runs.specs.Sums.{Vm, VmD, Vb, VbD, sumIn}
 use Rattle.runs.specs.Latches.{foundIn}
@@ -60,8 +63,8 @@ archiveShelf = record {
 -- ---- the logbook: the alarms that came or went, at the cycle's own time; a lock that opened or shut, at the time of the last cycle
 
 abbrev pub logFor : ℕ → ℕ → Step → History → List LogLine
-logFor t n (Cycle r) past = numbered n (r .time) (changes (foundIn past) (alarmsFor (settingsIn past) r))
-logFor t n (Turn turn) past = numbered n (lastTime t past) (turnCodes (lockAt (lockOf turn) past) (lockOf turn) (opensIt turn))
+logFor t n (Cycle r) past = numbered (logLine (r .time)) n (changes (foundIn past) (alarmsFor (settingsIn past) r))
+logFor t n (Turn turn) past = numbered (logLine (lastTime t past)) n (turnCodes (lockAt (lockOf turn) past) (lockOf turn) (opensIt turn))
 logFor t n Clear past = []
 logFor t n (Ask question) past = []
 logFor t n (Call door act) past = []
@@ -78,6 +81,30 @@ logShelf = record {
 }
 
 -- ---- the audit trail: one line for each setting that a commit puts in force
+
+-- those among the first k settings, in order of number: each that the session has staged, with the value in force and the value staged
+unfoldable pub changesIn : ℕ → History → ℕ → List Change
+changesIn door past zero = []
+changesIn door past (suc k) =
+    changesIn door past k ++ keep (hasStaged door (k + 1) past) (record { setting = k + 1; old = inForce (k + 1) past; new = seenAt door (k + 1) past })
+
+abbrev pub auditFor : ℕ → ℕ → Step → History → List AuditLine
+auditFor t n (Cycle r) past = []
+auditFor t n (Turn turn) past = []
+auditFor t n Clear past = []
+auditFor t n (Ask question) past = []
+auditFor t n (Call door act) past = []
+auditFor t n (Commit door) past = numbered (auditLine (lastTime t past) door) n (changesIn door past settingCount)
+
+abbrev pub auditShelf : Shelf
+auditShelf = record {
+  Line = AuditLine;
+  blank = noAudit;
+  size = auditLines;
+  ring = λ w. w .state .core .stores .audit .ring;
+  store = λ w. w .audit;
+  lines = auditFor;
+}
 
 -- ---- a run
 
