@@ -171,24 +171,28 @@ module _ (xs : List Step) (time supcode custcode : ℕ) (archive : List ArchiveL
   abbrev past : History
   past = history xs start
 
-  abbrev said : Locks
-  said = locksIn (startCode time supcode) (startCode time custcode) past
+  -- the codes of locks 2 and 3
+  abbrev code2 : ℕ
+  code2 = startCode time supcode
+
+  abbrev code3 : ℕ
+  code3 = startCode time custcode
 
   -- THE LOCKS STAND WHERE THE HISTORY SAYS, and their codes are the start's
-  pub locks-exactly : end .state .core .locks ≡ said
-  locks-exactly = run-locks (startCode time supcode) (startCode time custcode) xs start [] (start-locks time supcode custcode (leb endOfTime time) refl)
+  pub locks-exactly : end .state .core .locks ≡ locksIn code2 code3 past
+  locks-exactly = run-locks code2 code3 xs start [] (start-locks time supcode custcode (leb endOfTime time) refl)
 
   -- so each of the three is open exactly if the last accepted turn of it opened it
   pub lock-exactly : (lock : ℕ) → noLock lock ≡ false → lockIn (end .state .core .locks) lock ≡ lockAt lock past
-  lock-exactly lock e = rw locks-exactly (said-in (startCode time supcode) (startCode time custcode) past lock e)
+  lock-exactly lock e = rw locks-exactly (said-in code2 code3 past lock e)
 
   -- OPEN IS REFUSED BY 8 EXACTLY WHEN its lock is 2 or 3 and the code is not the start's, where 1 and 3 do not come first
   pub wrong-code-exactly : (lock code : ℕ)
-      → (numberOf ((step (Turn (Open lock code)) end) .1) ≡ 8) ↔ ((earlier 8 (rowsOf (Turn (Open lock code)) end) ≡ false) × (wrongCode (startCode time supcode) (startCode time custcode) lock code ≡ true))
+      → (numberOf ((step (Turn (Open lock code)) end) .1) ≡ 8) ↔ ((earlier 8 (rowsOf (Turn (Open lock code)) end) ≡ false) × (wrongCode code2 code3 lock code ≡ true))
   wrong-code-exactly lock code =
-      refused-when (Turn (Open lock code)) end 8 (omega arith) (wrongCode (startCode time supcode) (startCode time custcode) lock code)
+      refused-when (Turn (Open lock code)) end 8 (omega arith) (wrongCode code2 code3 lock code)
       (λ e. ap (λ (l : Locks). not (rightCode l lock code)) locks-exactly
-      ∙ code-wrong (startCode time supcode) (startCode time custcode) past code lock
+      ∙ code-wrong code2 code3 past code lock
       (or-false-left (noLock lock) false (or-false-right (unsound end (eqb (length (end .log)) logLines)) (noLock lock || false) e)))
 
   -- CLEAR IS REFUSED BY 10 EXACTLY WHEN neither lock 1 nor lock 2 is open by the history, where 1 does not come first
@@ -200,6 +204,6 @@ module _ (xs : List Step) (time supcode custcode : ℕ) (archive : List ArchiveL
   pub line-where-moved : (turn : LockTurn) → accepted (Turn turn) end ≡ true
       → logBy (Turn turn) end ≡ keep (moves turn past) (record { number = length (wrote logShelf xs start) % numbers; time = lastTime (startTime time) past; code = turnCode turn })
   line-where-moved turn e =
-      rw (locks-exactly, last-time xs time supcode custcode archive log audit, said-codes (startCode time supcode) (startCode time custcode) past turn (turned-lock turn end e))
+      rw (locks-exactly, last-time xs time supcode custcode archive log audit, said-codes code2 code3 past turn (turned-lock turn end e))
       (next-line (length (wrote logShelf xs start)) (lastTime (startTime time) past) (turnCode turn) (end .state .core .stores .log) (moves turn past)
       (rw zero-add at (told-run logShelf logKept xs start 0 (begun-tells time supcode custcode archive log audit .1))))
