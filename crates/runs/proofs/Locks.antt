@@ -143,26 +143,30 @@ module _ (xs : List Step) (time supcode custcode : ℕ) (archive : List ArchiveL
   abbrev past : History
   past = history xs start
 
-  abbrev said : Locks
-  said = locksIn (startCode time supcode) (startCode time custcode) past
+  -- the codes of locks 2 and 3
+  abbrev code2 : ℕ
+  code2 = startCode time supcode
+
+  abbrev code3 : ℕ
+  code3 = startCode time custcode
 
   -- THE LOCKS STAND WHERE THE HISTORY SAYS, and their codes are the start's
-  pub locks-exactly : end .state .core .locks ≡ said
+  pub locks-exactly : end .state .core .locks ≡ locksIn code2 code3 past
   locks-exactly =
-      from-start time supcode custcode archive log audit (λ w past. w .state .core .locks ≡ locksIn (startCode time supcode) (startCode time custcode) past)
-      (λ x w past h e. locks-kept (startCode time supcode) (startCode time custcode) x w past e) (start-locks time supcode custcode (leb endOfTime time) refl) xs
+      from-start time supcode custcode archive log audit (λ w past. w .state .core .locks ≡ locksIn code2 code3 past)
+      (λ x w past h e. locks-kept code2 code3 x w past e) (start-locks time supcode custcode (leb endOfTime time) refl) xs
 
   -- so each of the three is open exactly if the last accepted turn of it opened it
   pub lock-exactly : (lock : ℕ) → noLock lock ≡ false → lockIn (end .state .core .locks) lock ≡ lockAt lock past
-  lock-exactly lock e = rw locks-exactly (said-in (startCode time supcode) (startCode time custcode) past lock e)
+  lock-exactly lock e = rw locks-exactly (said-in code2 code3 past lock e)
 
   -- OPEN IS REFUSED BY 8 EXACTLY WHEN its lock is 2 or 3 and the code is not the start's, where 1 and 3 do not come first
   pub wrong-code-exactly : (lock code : ℕ)
-      → (numberOf ((step (Turn (Open lock code)) end) .1) ≡ 8) ↔ ((earlier 8 (rowsOf (Turn (Open lock code)) end) ≡ false) × (wrongCode (startCode time supcode) (startCode time custcode) lock code ≡ true))
+      → (numberOf ((step (Turn (Open lock code)) end) .1) ≡ 8) ↔ ((earlier 8 (rowsOf (Turn (Open lock code)) end) ≡ false) × (wrongCode code2 code3 lock code ≡ true))
   wrong-code-exactly lock code =
-      refused-when (Turn (Open lock code)) end 8 (omega arith) (wrongCode (startCode time supcode) (startCode time custcode) lock code)
+      refused-when (Turn (Open lock code)) end 8 (omega arith) (wrongCode code2 code3 lock code)
       (λ e. ap (λ (l : Locks). not (rightCode l lock code)) locks-exactly
-      ∙ code-wrong (startCode time supcode) (startCode time custcode) past code lock
+      ∙ code-wrong code2 code3 past code lock
       (or-false-left (noLock lock) false (or-false-right (unsound end (eqb (length (end .log)) logLines)) (noLock lock || false) e)))
 
   -- CLEAR IS REFUSED BY 10 EXACTLY WHEN neither lock 1 nor lock 2 is open by the history, where 1 does not come first

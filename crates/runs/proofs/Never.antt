@@ -12,7 +12,9 @@ use lib.ListN.{length}
 use borrow.Author.Tests.{eq-eqb, ne-eqb, not-true}
 use Rattle.ground.proofs.Flags.{and-left, and-right}
 use Rattle.order.specs.Order.{run, trace}
+use Rattle.ring.specs.declared.Ring.{Ring}
 use Rattle.ring.specs.Ring.{archiveLines, logLines, auditLines}
+use Rattle.ring.specs.Store.{written}
 use Rattle.ring.proofs.Stores.{written-length}
 use Rattle.books.specs.declared.ArchiveLine.{ArchiveLine}
 use Rattle.books.specs.declared.LogLine.{LogLine}
@@ -29,16 +31,21 @@ use Rattle.runs.specs.Run.{Step, Question, Cycle, Turn, Clear, Ask, Call
 use Rattle.runs.specs.History.{History, history}
 use Rattle.runs.specs.Never.{Sized, laterRows, metIn}
 use Rattle.runs.proofs.Exactly.{exactly, done-exactly, listed}
-use Rattle.runs.proofs.Effects.{leaves, number-is, orderly}
+use Rattle.runs.proofs.Effects.{after, leaves, number-is, orderly}
+use Rattle.runs.proofs.Keeps.{always-whole}
 use Rattle.runs.proofs.Lines.{archiveBy, logBy, auditBy, archive-stores, log-stores, audit-stores}
 
 -- ---- no step changes the length of a store
 
+store-kept : {A : Type 0} (size : ℕ) (f : Body → List A) (r : Ring) (ys : List A) (x : Step) (w : World) → f (bodyOf (after x w)) ≡ written size r (f (bodyOf w)) ys
+    → length (f (bodyOf ((step x w) .0))) ≡ length (f (bodyOf w))
+store-kept size f r ys x w e = leaves (λ (b : Body). length (f b)) x w (ap length e ∙ written-length size r (f (bodyOf w)) ys)
+
 pub step-sized : (x : Step) (w : World) → Sized w → Sized ((step x w) .0)
 step-sized x w s = record {
-  archive = leaves (λ (b : Body). length (b .archive)) x w (ap length (archive-stores x w) ∙ written-length archiveLines (w .state .core .stores .archive) (w .archive) (archiveBy x w)) ∙ s .archive;
-  log = leaves (λ (b : Body). length (b .log)) x w (ap length (log-stores x w) ∙ written-length logLines (w .state .core .stores .log .ring) (w .log) (logBy x w)) ∙ s .log;
-  audit = leaves (λ (b : Body). length (b .audit)) x w (ap length (audit-stores x w) ∙ written-length auditLines (w .state .core .stores .audit .ring) (w .audit) (auditBy x w)) ∙ s .audit;
+  archive = store-kept archiveLines (λ b. b .archive) (w .state .core .stores .archive) (archiveBy x w) x w (archive-stores x w) ∙ s .archive;
+  log = store-kept logLines (λ b. b .log) (w .state .core .stores .log .ring) (logBy x w) x w (log-stores x w) ∙ s .log;
+  audit = store-kept auditLines (λ b. b .audit) (w .state .core .stores .audit .ring) (auditBy x w) x w (audit-stores x w) ∙ s .audit;
 }
 
 pub run-sized : (xs : List Step) (w : World) → Sized w → Sized ((run corrector xs w) .1)
@@ -53,10 +60,6 @@ record Ready (w : World) : Type 0 where
 
 step-ready : (x : Step) (w : World) → Ready w → Ready ((step x w) .0)
 step-ready x w s = record { whole = step-whole x w (s .whole); sized = step-sized x w (s .sized) }
-
-run-ready : (xs : List Step) (w : World) → Ready w → Ready ((run corrector xs w) .1)
-run-ready [] w s = s
-run-ready (x ∷ xs) w s = run-ready xs ((step x w) .0) (step-ready x w s)
 
 module _ (w : World) (s : Ready w) where
   archive-full : eqb (length (w .archive)) archiveLines ≡ true
@@ -119,7 +122,7 @@ module _ (time supcode custcode : ℕ) (archive : List ArchiveLine) (log : List 
   from-start = record { whole = start-whole time supcode custcode; sized = sized }
 
   ready : Ready end
-  ready = run-ready xs start from-start
+  ready = record { whole = always-whole xs time supcode custcode archive log audit; sized = run-sized xs start sized }
 
   -- NO STEP OF THE RUN WAS ANSWERED WITH 1
   pub never-met : metIn 1 (history xs start) ≡ false

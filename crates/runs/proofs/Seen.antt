@@ -1,19 +1,19 @@
--- What a session sees and does, said of the history: what it has staged, what each read answers, and when its commit is refused by 12.
+-- What a session sees and does, said of the history: what it has staged, what each read answers, and when its commit is refused by 10 and by 12.
 -- Assumes nothing.
 use mathlib.Core.Path.{_≡_, refl, sym, ap, _∙_}
-use mathlib.Core.Bool.{Bool, true, false, not, cond, _||_}
+use mathlib.Core.Bool.{Bool, true, false, not, cond, _&&_, _||_}
 use mathlib.Core.Logic.{_↔_}
 use mathlib.Core.List.{List}
 use Prim.Native.Nat.{ℕ, _+_, _-_, _<_}
 use native.Mathlib.Omega.{arith}
 use lib.Dec.{eqb}
-use lib.ListN.{length}
+use lib.ListN.{length, getD}
 use lib.Seq.{ext-getD}
 use Rattle.ground.proofs.Flags.{or-false-left, or-false-right}
 use Rattle.order.specs.Order.{run}
 use Rattle.settings.specs.declared.Value.{Value}
 use Rattle.settings.specs.declared.Setting.{Setting}
-use Rattle.settings.specs.Settings.{settingCount, noSetting, valueAt, orderedB}
+use Rattle.settings.specs.Settings.{settingCount, noSetting, valueAt, orderedB, rightB}
 use Rattle.ring.specs.Ring.{auditLines}
 use Rattle.ring.specs.Store.{listed}
 use Rattle.ring.proofs.Stores.{length-listed, getD-listed}
@@ -22,9 +22,10 @@ use Rattle.books.specs.declared.LogLine.{LogLine}
 use Rattle.books.specs.declared.AuditLine.{AuditLine}
 use Rattle.state.specs.declared.Cell.{Cell}
 use Rattle.state.specs.declared.Session.{Session}
+use Rattle.state.specs.State.{blankCell}
 use Rattle.state.specs.Card.{firstOf}
 use Rattle.state.proofs.Card.{not-false}
-use Rattle.doors.specs.Doors.{noDoor, noSuchSetting, sessionAt, cellAt, valueRead, asStand, lockMissing, staleB}
+use Rattle.doors.specs.Doors.{noDoor, noSuchSetting, sessionAt, cellAt, valueRead, asStand, missingAt, lockMissing, staleB}
 use Rattle.doors.proofs.Force.{stand-length}
 use Rattle.commands.specs.declared.Given.the-variants as given
 use Rattle.runs.specs.Exactly.{earlier}
@@ -34,9 +35,11 @@ use Rattle.runs.specs.History.{History, history}
 use Rattle.runs.specs.Open.{openAt}
 use Rattle.runs.specs.Stale.{hasStaged}
 use Rattle.runs.specs.InForce.{lastWritten, inForce, settingOf, seenAt, wouldStand}
+use Rattle.runs.specs.Locks.{lockAt, lacksLock}
 use Rattle.runs.proofs.Exactly.{silent}
 use Rattle.runs.proofs.Effects.{step-is, number-is, refused-when}
-use Rattle.runs.proofs.Stale.{Known, known-at}
+use Rattle.runs.proofs.Stale.{Known, known-at, same-below, in-table}
+use Rattle.runs.proofs.Locks.{locks-exactly}
 use Rattle.runs.proofs.InForce.{Agreed, agreed, in-force-exactly, stood-at}
 use Rattle.runs.proofs.Open.{open-exactly}
 
@@ -86,6 +89,30 @@ module _ (time supcode custcode : ℕ) (archive : List ArchiveLine) (log : List 
       ∙ rw n
       (ap (λ (v : Value). giving 0 (given.Value v)) (value (valueAt (end .state .core .settings) (setting - 1))
       ∙ ap (λ (v : Value). lastWritten door setting v past) (in-force-exactly time supcode custcode archive log audit xs setting e)))
+
+  -- a lock is missing for a staged setting
+  missing-same : (door : ℕ) → noDoor door ≡ false → sessionAt (end .state) door .live ≡ true
+      → lockMissing (end .state .core .locks) (sessionAt (end .state) door .cells) ≡ lacksLock door past
+  unfolding lockMissing missingAt cellAt
+  missing-same door d live =
+      rw (locks-exactly xs time supcode custcode archive log audit)
+      (same-below (λ k. getD (sessionAt (end .state) door .cells) k blankCell .staged && not (rightB k (lockAt 1 past) (lockAt 2 past) (lockAt 3 past)))
+      (λ k. hasStaged door (k + 1) past && not (rightB k (lockAt 1 past) (lockAt 2 past) (lockAt 3 past))) settingCount
+      (λ k l.
+          let p : k + 1 - 1 ≡ k = omega arith in
+          let staged = known door d .tells live (k + 1) (in-table k l) .staged in
+          ap (λ (t : Bool). t && not (rightB k (lockAt 1 past) (lockAt 2 past) (lockAt 3 past))) (rw p at staged)))
+
+  -- A COMMIT IS REFUSED BY 10 EXACTLY WHEN, by the history, its session has staged a setting whose lock is missing, where 1, 3 and 4 do not come first
+  pub rights-exactly : (door : ℕ)
+      → (numberOf ((step (Commit door) end) .1) ≡ 10) ↔ ((earlier 10 (rowsOf (Commit door) end) ≡ false) × (lacksLock door past ≡ true))
+  rights-exactly door = refused-when (Commit door) end 10 (omega arith) (lacksLock door past) same
+    where
+      same : earlier 10 (rowsOf (Commit door) end) ≡ false → lockMissing (end .state .core .locks) (sessionAt (end .state) door .cells) ≡ lacksLock door past
+      same e =
+          let live : Bool = sessionAt (end .state) door .live in
+          let (p, q) = passed (unsound end (eqb (length (end .audit)) auditLines)) (noDoor door) (not live) false e in
+          missing-same door p (not-false live q)
 
   -- the settings as they would stand after a commit
   stand-same : (door : ℕ) → noDoor door ≡ false → sessionAt (end .state) door .live ≡ true

@@ -1,14 +1,17 @@
 -- Where the locks stand, said of the history alone. Document 01, "Doors, sessions, locks": "They .. are shut when fresh. .. A lock that opens or
 -- shuts is logged; turning it to where it already stands is accepted and not logged, but opening needs the right code even then."
 -- Assumes nothing.
-use Prim.Native.Nat.{ℕ}
+use Prim.Native.Nat.{ℕ, _+_}
 use mathlib.Core.Bool.{Bool, false, not, cond, _&&_, _||_}
 use mathlib.Core.List.{[], _∷_}
 use lib.Dec.{leb, eqb}
 use Rattle.calendar.specs.Calendar.{endOfTime}
+use Rattle.ground.specs.Below.{anyBelow}
+use Rattle.settings.specs.Settings.{settingCount, rightB}
 use Rattle.state.specs.declared.Locks.{Locks}
 use Rattle.runs.specs.Run.{Step, LockTurn, Open, Shut, Cycle, Turn, Clear, Ask, Call, Commit, lockOf, opensIt}
 use Rattle.runs.specs.History.{History, done}
+use Rattle.runs.specs.Stale.{hasStaged}
 
 -- what is said of a lock turn, and of any other command
 abbrev pub onTurn : {A : Type 0} → (LockTurn → A) → A → Step → A
@@ -51,6 +54,10 @@ locksIn supcode custcode past = record {
 -- Clear needs lock 1 or lock 2
 abbrev pub mayClear : History → Bool
 mayClear past = lockAt 1 past || lockAt 2 past
+
+-- a commit at the door lacks a lock for a setting that its session has staged
+abbrev pub lacksLock : ℕ → History → Bool
+lacksLock door past = anyBelow (λ k. hasStaged door (k + 1) past && not (rightB k (lockAt 1 past) (lockAt 2 past) (lockAt 3 past))) settingCount
 
 -- ---- the lines
 
