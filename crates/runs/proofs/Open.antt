@@ -109,7 +109,7 @@ refused-open (Ask question) w k q z door e = refl
 refused-open (Call d Begin) w k q z door e = rw z
 refused-open (Call d Abandon) w k q z door e = rw z
 refused-open (Commit d) w k q z door e =
-    ended-open (w .state) d k (endsRefused k) refl z (rw q at (past-three (unsound w (eqb (length (w .audit)) auditLines)) (noDoor d) _)) door e
+    ended-open (w .state) d k (endsRefused k) refl z (λ h. past-three (unsound w (eqb (length (w .audit)) auditLines)) (noDoor d) _ (ap endsRefused q ∙ h)) door e
 refused-open (Call d (Read setting)) w k q z door e = refl
 refused-open (Call d (Write setting v)) w k q z door e = refl
 

@@ -45,8 +45,8 @@ use Rattle.books.specs.declared.ArchiveLine.{ArchiveLine}
 use Rattle.books.specs.declared.LogLine.{LogLine}
 use Rattle.books.specs.declared.AuditLine.{AuditLine}
 use Rattle.device.specs.Plan.{lineOf, byState}
-use Rattle.panel.specs.Panel.{archiveLineBy, logLineBy}
-use Rattle.doors.specs.Doors.{auditLineBy}
+use Rattle.panel.specs.Plan.{archiveLineBy, logLineBy}
+use Rattle.doors.specs.Plan.{auditLineBy}
 use Rattle.device.proofs.Ways.{archive-way, log-way, audit-way, state-way}
 use Rattle.state.proofs.State as State′
 use Rattle.commands.proofs.Command as Command′
