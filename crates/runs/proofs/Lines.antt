@@ -211,7 +211,7 @@ log-by-history t a b n (Ask question) w past h s e z = refl
 log-by-history t a b n (Call door act) w past h s e z = refl
 log-by-history t a b n (Commit door) w past h s e z = refl
 
-abbrev pub logKept : Kept logShelf
+abbrev logKept : Kept logShelf
 logKept = record {
   writes = logBy;
   Tells = LogTells;
@@ -287,7 +287,7 @@ commit-told : (t a b n : ℕ) (door : ℕ) (w : World) (past : History) → Agre
     → sessionAt (w .state) door .live ≡ true → commitLines (w .state) door ≡ numbered (auditLine (lastTime t past) door) n (changesIn door past settingCount)
 unfolding commitLines audited
 commit-told t a b n door w past h s e d live =
-    rw (s .time, changes-told door w past h (sessionAt (w .state) door) (known-at w past (h .sessions) door d) live settingCount (omega arith))
+    rw (changes-told door w past h (sessionAt (w .state) door) (known-at w past (h .sessions) door d) live settingCount (omega arith), s .time)
     (numbered-from (auditLine (lastTime t past) door) auditLines n (w .state .core .stores .audit) (changesIn door past settingCount) e)
 
 audit-by-history : (t a b n : ℕ) (x : Step) (w : World) (past : History) → Agreed w past → Told t a b w past → AuditTells n (bodyOf w) → firstOf (rowsOf x w) ≡ 0
@@ -300,7 +300,7 @@ audit-by-history t a b n (Call door act) w past h s e z = refl
 audit-by-history t a b n (Commit door) w past h s e z =
     commit-told t a b n door w past h s e (silent (rowsOf (Commit door) w) refl z 3) (not-false (sessionAt (w .state) door .live) (silent (rowsOf (Commit door) w) refl z 4))
 
-abbrev pub auditKept : Kept auditShelf
+abbrev auditKept : Kept auditShelf
 auditKept = record {
   writes = auditBy;
   Tells = AuditTells;

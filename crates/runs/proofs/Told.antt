@@ -3,7 +3,7 @@
 -- Assumes nothing.
 use mathlib.Core.Path.{_≡_, refl, sym, ap, _∙_}
 use mathlib.Core.Bool.{Bool, true, cond}
-use mathlib.Core.List.{List, []}
+use mathlib.Core.List.{List, [], _∷_}
 use Prim.Native.Nat.{ℕ, _%_}
 use lib.Dec.{leb, eqb}
 use borrow.Author.Tests.{eqb-true}
@@ -85,14 +85,13 @@ module _ (time supcode custcode : ℕ) (archive : List ArchiveLine) (log : List 
       → ((x : Step) (w : World) (past : History) → Agreed w past → Told (startTime time) (startCode time supcode) (startCode time custcode) w past → P w past
       → P ((step x w) .0) ((x, (step x w) .1) ∷ past))
       → P start [] → (xs : List Step) → P ((run corrector xs start) .1) (history xs start)
-  from-start-told P f p xs = from-start time supcode custcode archive log audit With with-kept (record { tells = start-told; also = p }) xs .also
+  from-start-told P f p xs = from-start time supcode custcode archive log audit With with-kept (start-told, p) xs .1
     where
-      record With (w : World) (past : History) : Type 0 where
-        tells : Told (startTime time) (startCode time supcode) (startCode time custcode) w past
-        also : P w past
+      With : World → History → Type 0
+      With w past = Told (startTime time) (startCode time supcode) (startCode time custcode) w past × P w past
 
       with-kept : KeptByStep With
-      with-kept x w past h s = record { tells = told-kept _ _ _ x w past h (s .tells); also = f x w past h (s .tells) (s .also) }
+      with-kept x w past h (s, q) = (told-kept _ _ _ x w past h s, f x w past h s q)
 
   pub told : (xs : List Step) → Told (startTime time) (startCode time supcode) (startCode time custcode) ((run corrector xs start) .1) (history xs start)
   told xs = from-start time supcode custcode archive log audit (Told (startTime time) (startCode time supcode) (startCode time custcode)) (told-kept _ _ _) start-told xs
