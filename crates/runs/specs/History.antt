@@ -34,3 +34,7 @@ lastTime t (x ∷ past) = cond (done x) (timeBy (x .0) (lastTime t past)) (lastT
 -- a refused start hands back the state that start time 0 would give
 abbrev pub startTime : ℕ → ℕ
 startTime time = cond (leb endOfTime time) 0 time
+
+-- the time of a device with which a run begins: until a cycle is accepted it is the last accepted time
+abbrev pub startedAt : World → ℕ
+startedAt w = w .state .core .measured .time

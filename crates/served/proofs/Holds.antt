@@ -3,13 +3,14 @@
 -- way: it began with the last start, and its steps are the commands since.
 -- Assumes nothing.
 use Prim.Native.Nat.{ℕ, _%_}
-use mathlib.Core.Path.{_≡_, sym, subst}
+use mathlib.Core.Path.{_≡_, refl, sym, subst}
 use mathlib.Core.Logic.{_↔_}
 use mathlib.Core.Bool.{true, false}
 use mathlib.Core.List.{List, _∷_, _++_, reverse}
 use native.Mathlib.Omega.{arith}
 use lib.ListN.{length, take, getD}
 use Rattle.order.specs.Order.{run, serial, steps, answers}
+use Rattle.calendar.specs.Calendar.{endOfTime}
 use Rattle.ring.specs.Ring.{archiveLines, logLines, auditLines}
 use Rattle.books.specs.declared.ArchiveLine.{ArchiveLine}
 use Rattle.books.specs.declared.LogLine.{LogLine}
@@ -29,13 +30,14 @@ use Rattle.runs.specs.Run.{Commit, numberOf, corrector, closed, started}
 use Rattle.runs.specs.Exactly.{earlier}
 use Rattle.runs.specs.Rows.{rowsOf}
 use Rattle.runs.specs.Sums.{Counter, sumIn, shows, rollover}
-use Rattle.runs.specs.Lines.{archiveShelf, logShelf, auditShelf, wrote, holds}
-use Rattle.runs.specs.History.{history}
+use Rattle.runs.specs.Lines.{archiveShelf, logShelf, auditShelf, wroteIn, holds}
+use Rattle.runs.specs.History.{history, startedAt}
 use Rattle.runs.specs.Stale.{stale}
 use Rattle.runs.specs.Never.{laterRows, metIn}
 use Rattle.runs.proofs.Effects.{refused-exactly}
 use Rattle.runs.proofs.Keeps.{always-whole}
 use Rattle.runs.proofs.Sums.{sums}
+use Rattle.runs.proofs.Times.{start-time}
 use Rattle.runs.proofs.Lines.{archive-holds, log-holds, audit-holds}
 use Rattle.runs.proofs.Stale.{stale-exactly}
 use Rattle.runs.proofs.Sessions.{sessions-in-order}
@@ -89,20 +91,20 @@ module _ (bs : List Block) (time supcode custcode : ℕ) where
       (λ t a b archive log audit s xs. sessions-in-order xs t a b archive log audit)
 
   -- THE BOOKS: each store of the desk holds the last 15, 250, 200 of the lines written since the last start, newest first
-  pub served-archive : holds archiveShelf back ≡ take archiveLines (reverse (wrote archiveShelf (last .steps) (last .from)))
+  pub served-archive : holds archiveShelf back ≡ take archiveLines (reverse (wroteIn archiveShelf (startedAt (last .from)) (history (last .steps) (last .from))))
   served-archive =
-      holds-of-the-desk (λ w xs v. holds archiveShelf v ≡ take archiveLines (reverse (wrote archiveShelf xs w)))
-      (λ t a b archive log audit s xs. archive-holds t a b archive log audit xs (s .archive))
+      holds-of-the-desk (λ w xs v. holds archiveShelf v ≡ take archiveLines (reverse (wroteIn archiveShelf (startedAt w) (history xs w))))
+      (λ t a b archive log audit s xs. rw (start-time t a b (leb endOfTime t) refl) (archive-holds t a b archive log audit xs (s .archive)))
 
-  pub served-log : holds logShelf back ≡ take logLines (reverse (wrote logShelf (last .steps) (last .from)))
+  pub served-log : holds logShelf back ≡ take logLines (reverse (wroteIn logShelf (startedAt (last .from)) (history (last .steps) (last .from))))
   served-log =
-      holds-of-the-desk (λ w xs v. holds logShelf v ≡ take logLines (reverse (wrote logShelf xs w)))
-      (λ t a b archive log audit s xs. log-holds t a b archive log audit xs (s .log))
+      holds-of-the-desk (λ w xs v. holds logShelf v ≡ take logLines (reverse (wroteIn logShelf (startedAt w) (history xs w))))
+      (λ t a b archive log audit s xs. rw (start-time t a b (leb endOfTime t) refl) (log-holds t a b archive log audit xs (s .log)))
 
-  pub served-audit : holds auditShelf back ≡ take auditLines (reverse (wrote auditShelf (last .steps) (last .from)))
+  pub served-audit : holds auditShelf back ≡ take auditLines (reverse (wroteIn auditShelf (startedAt (last .from)) (history (last .steps) (last .from))))
   served-audit =
-      holds-of-the-desk (λ w xs v. holds auditShelf v ≡ take auditLines (reverse (wrote auditShelf xs w)))
-      (λ t a b archive log audit s xs. audit-holds t a b archive log audit xs (s .audit))
+      holds-of-the-desk (λ w xs v. holds auditShelf v ≡ take auditLines (reverse (wroteIn auditShelf (startedAt w) (history xs w))))
+      (λ t a b archive log audit s xs. rw (start-time t a b (leb endOfTime t) refl) (audit-holds t a b archive log audit xs (s .audit)))
 
   -- THE DESK'S STATE IS WHOLE
   pub served-whole : wholeB (back .state) ≡ true

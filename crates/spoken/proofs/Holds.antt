@@ -5,8 +5,10 @@
 use Prim.Native.Nat.{ℕ, suc, _%_}
 use mathlib.Core.Path.{_≡_, refl, ap}
 use mathlib.Core.List.{List, [], _∷_, map, reverse}
+use lib.Dec.{leb}
 use lib.ListN.{take, replicate, length-replicate}
 use Rattle.order.specs.Order.{run, serial, steps, answers}
+use Rattle.calendar.specs.Calendar.{endOfTime}
 use Rattle.ring.specs.Ring.{archiveLines, logLines, auditLines}
 use Rattle.commands.specs.declared.Command.{Command}
 use Rattle.commands.specs.declared.Entry.{Entry}
@@ -17,9 +19,10 @@ use Rattle.desk.specs.Desk as desk
 use Rattle.lines.specs.Lines.{wholeLines}
 use Rattle.runs.specs.Run.{corrector, closed}
 use Rattle.runs.specs.Sums.{Counter, sumIn, shows, rollover}
-use Rattle.runs.specs.History.{history}
-use Rattle.runs.specs.Lines.{archiveShelf, logShelf, auditShelf, wrote, holds}
+use Rattle.runs.specs.History.{history, startedAt}
+use Rattle.runs.specs.Lines.{archiveShelf, logShelf, auditShelf, wroteIn, holds}
 use Rattle.runs.proofs.Sums.{sums}
+use Rattle.runs.proofs.Times.{start-time}
 use Rattle.runs.proofs.Lines.{archive-holds, log-holds, audit-holds}
 use Rattle.runs.proofs.Sessions.{sessions-in-order}
 use Rattle.served.specs.Served.{Run, lastRun, input, Block, linesIn, linesOf}
@@ -76,17 +79,17 @@ module _ (rs : List Read) (enough : EnoughAfter rs) (time supcode custcode : ℕ
       (λ t a b archive log audit s xs. sessions-in-order xs t a b archive log audit)
 
   -- THE BOOKS: each store holds the last 15, 250, 200 of the lines written since the last start, newest first
-  pub spoken-archive : holds archiveShelf back ≡ take archiveLines (reverse (wrote archiveShelf (last .steps) (last .from)))
+  pub spoken-archive : holds archiveShelf back ≡ take archiveLines (reverse (wroteIn archiveShelf (startedAt (last .from)) (history (last .steps) (last .from))))
   spoken-archive =
-      spoken-holds (λ w xs v. holds archiveShelf v ≡ take archiveLines (reverse (wrote archiveShelf xs w)))
-      (λ t a b archive log audit s xs. archive-holds t a b archive log audit xs (s .archive))
+      spoken-holds (λ w xs v. holds archiveShelf v ≡ take archiveLines (reverse (wroteIn archiveShelf (startedAt w) (history xs w))))
+      (λ t a b archive log audit s xs. rw (start-time t a b (leb endOfTime t) refl) (archive-holds t a b archive log audit xs (s .archive)))
 
-  pub spoken-log : holds logShelf back ≡ take logLines (reverse (wrote logShelf (last .steps) (last .from)))
+  pub spoken-log : holds logShelf back ≡ take logLines (reverse (wroteIn logShelf (startedAt (last .from)) (history (last .steps) (last .from))))
   spoken-log =
-      spoken-holds (λ w xs v. holds logShelf v ≡ take logLines (reverse (wrote logShelf xs w)))
-      (λ t a b archive log audit s xs. log-holds t a b archive log audit xs (s .log))
+      spoken-holds (λ w xs v. holds logShelf v ≡ take logLines (reverse (wroteIn logShelf (startedAt w) (history xs w))))
+      (λ t a b archive log audit s xs. rw (start-time t a b (leb endOfTime t) refl) (log-holds t a b archive log audit xs (s .log)))
 
-  pub spoken-audit : holds auditShelf back ≡ take auditLines (reverse (wrote auditShelf (last .steps) (last .from)))
+  pub spoken-audit : holds auditShelf back ≡ take auditLines (reverse (wroteIn auditShelf (startedAt (last .from)) (history (last .steps) (last .from))))
   spoken-audit =
-      spoken-holds (λ w xs v. holds auditShelf v ≡ take auditLines (reverse (wrote auditShelf xs w)))
-      (λ t a b archive log audit s xs. audit-holds t a b archive log audit xs (s .audit))
+      spoken-holds (λ w xs v. holds auditShelf v ≡ take auditLines (reverse (wroteIn auditShelf (startedAt w) (history xs w))))
+      (λ t a b archive log audit s xs. rw (start-time t a b (leb endOfTime t) refl) (audit-holds t a b archive log audit xs (s .audit)))
