@@ -7,7 +7,8 @@ ghost use Prim.Native.Nat.{_*_, _≤_};
 ghost use Rattle.factor.specs.Factor.{nearestFraction, factorOf};
 ghost use Rattle.factor.specs.Plan.{inRange, inRanges, factorGuarded};
 
-// The numerator is x·1000: the first step divides x, the second brings the 1000 in.
+// The numerator p·Tb·10^9 is (p·Tb·FIRST_STEP)·SECOND_STEP. The part in brackets fits 64 bits and is divided first; what is left over is
+// then divided with SECOND_STEP.
 const SECOND_STEP: u64 = 1000;
 
 const FIRST_STEP: u64 = 100 * ranges::K_SCALE;
