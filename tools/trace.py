@@ -1,5 +1,5 @@
 #!/usr/bin/env python3
-"""Checks docs/TRACE.md: each cited name stands in the file that is cited for it, and each cited definition is one that something promised goes by.
+"""Checks docs/TRACE.md: each cited name stands in the file that is cited for it, and a contract or a theorem goes by each cited definition.
 
     tools/trace.py
 
@@ -58,6 +58,11 @@ HEAD = re.compile(r"^( *)((?:unfoldable |abbrev )?)(pub )?((?!--|let |use |modul
 BLOCK = re.compile(r"^( *)(?:pub )?(?:data|record) ([^\s{]+)")
 
 
+def begins(line):
+    """Whether a declaration or a module begins here."""
+    return HEAD.match(line) or BLOCK.match(line) or line.lstrip().startswith("module ")
+
+
 def indent(line):
     return len(line) - len(line.lstrip(" "))
 
@@ -95,7 +100,7 @@ def parts(path):
             statements.append(line)
         elif head:
             names, defined = head[4].split(), head[2] or "/specs/" in path
-            while at < len(lines) and not HEAD.match(lines[at]) and not BLOCK.match(lines[at]) and not lines[at].lstrip().startswith("module "):
+            while at < len(lines) and not begins(lines[at]):
                 first = WORD.match(lines[at].lstrip())
                 if not defined and first and first[0] in names + ["unfolding"]:
                     break
@@ -141,18 +146,20 @@ def reached():
     def files(pattern):
         return [os.path.relpath(path, ROOT) for path in sorted(glob.glob(os.path.join(ROOT, "crates/*", pattern)))]
 
-    open_ = [name for path in files("src/*.rt") for text in contracts(read(path)) for name in spoken(path, text)]
-    open_ += [name for path in files("proofs/*.antt") for text in parts(path)[1] for name in spoken(path, text)]
+    todo = [name for path in files("src/*.rt") for text in contracts(read(path)) for name in spoken(path, text)]
+    todo += [name for path in files("proofs/*.antt") for text in parts(path)[1] for name in spoken(path, text)]
     seen = set()
-    while open_:
-        path, name = open_.pop()
+    while todo:
+        path, name = todo.pop()
         if (path, name) in seen or not os.path.isfile(os.path.join(ROOT, path)):
             continue
         seen.add((path, name))
         text = parts(path)[0].get(name)
         if text:
-            open_ += spoken(path, text)
+            todo += spoken(path, text)
             seen |= {(path, other) for other, same in parts(path)[0].items() if same is text}
+        elif name in meant(path):
+            todo.append(meant(path)[name])
     return seen
 
 
