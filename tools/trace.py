@@ -1,15 +1,20 @@
 #!/usr/bin/env python3
-"""Checks docs/TRACE.md: each cited name stands in the file that is cited for it.
+"""Checks docs/TRACE.md: each cited name stands in the file that is cited for it, and a contract or a theorem goes by each cited definition.
 
     tools/trace.py
 
 A citation is one or more names in backticks, separated by commas, and right after them a file or folder in brackets. A path that begins
 with the name of a crate stands below crates/. A name of a .antt, .rt or .rs file has to be declared there; a name before a folder is a
 file of that folder, whatever its suffix; in any other file the words have to stand, in a file `stdout` at the beginning of a line. In the
-tables every name in backticks has to belong to a citation, and every row has to have a place. Prints what is missing, and exits 1 if
-anything is.
+tables every name in backticks has to belong to a citation, and every row has to have a place.
+
+A name of a file in a folder specs is a definition. It has to be reached: the contract of a public function names it, or the statement of a
+public theorem, or a definition that is itself reached. A name means the declaration of its own file, or else the one that a `use` of the
+file brings in. (Whether a word is a local variable of the same name is not looked at.)
+
+Prints what is missing, and exits 1 if anything is.
 """
-import os, re, sys
+import glob, os, re, sys
 from functools import lru_cache
 
 ROOT = os.path.dirname(os.path.dirname(os.path.abspath(__file__)))
@@ -45,6 +50,119 @@ def stems(folder):
     return {name.rsplit(".", 1)[0] for name in os.listdir(os.path.join(ROOT, folder))}
 
 
+# ---- which definitions are reached
+
+USED = re.compile(r"\buse Rattle·(\w+)(?:·\w+)?\.(specs|proofs)\.(\w+)\.\{([^}]*)\}")
+WORD = re.compile(r"[^\s(){}\[\],;.⌜⌝]+")
+HEAD = re.compile(r"^( *)((?:unfoldable |abbrev )?)(pub )?((?!--|let |use |module |where)[^\n(){}=]*?) :(?: |$)")
+BLOCK = re.compile(r"^( *)(?:pub )?(?:data|record) ([^\s{]+)")
+
+
+def begins(line):
+    """Whether a declaration or a module begins here."""
+    return HEAD.match(line) or BLOCK.match(line) or line.lstrip().startswith("module ")
+
+
+def indent(line):
+    return len(line) - len(line.lstrip(" "))
+
+
+@lru_cache(None)
+def meant(path):
+    """What the names that a file brings in stand for: a file and a name."""
+    names = {}
+    for crate, folder, module, listed in USED.findall(read(path)):
+        for name in filter(None, map(str.strip, listed.split(","))):
+            there, _, here = name.partition(" as ")
+            names[here or there] = (f"crates/{crate}/{folder}/{module}.antt", there)
+    return names
+
+
+@lru_cache(None)
+def parts(path):
+    """The definitions of a file, each with its text, and the statements of its public theorems. A record or a type is one with its fields and
+    cases."""
+    texts, statements = {}, []
+    lines = re.sub(r"--[^\n]*", "", read(path)).split("\n")
+    at = 0
+    while at < len(lines):
+        line, start = lines[at], at
+        at += 1
+        block, head = BLOCK.match(line), HEAD.match(line)
+        if block:
+            while at < len(lines) and (not lines[at].strip() or indent(lines[at]) > len(block[1])):
+                at += 1
+            text = "\n".join(lines[start:at])
+            cases = re.findall(r"^ +(?:pub )?([^\n(){}=:]+) :", text, re.M)
+            for name in [block[2]] + " ".join(cases).split():
+                texts[name] = text
+        elif line.lstrip().startswith("module "):
+            statements.append(line)
+        elif head:
+            names, defined = head[4].split(), head[2] or "/specs/" in path
+            while at < len(lines) and not begins(lines[at]):
+                first = WORD.match(lines[at].lstrip())
+                if not defined and first and first[0] in names + ["unfolding"]:
+                    break
+                at += 1
+            text = "\n".join(lines[start:at])
+            if defined:
+                texts.update((name, text) for name in names)
+            elif head[3]:
+                statements.append(text)
+    return texts, statements
+
+
+def contracts(text):
+    """The `ensures` of the public functions of a source file."""
+    found = []
+    for function in re.split(r"^(?=(?:pub )?fn )", text, flags=re.M):
+        begun = function.find("ensures {")
+        if not function.startswith("pub fn ") or begun < 0:
+            continue
+        end, depth = function.index("{", begun), 0
+        while True:
+            depth += {"{": 1, "}": -1}.get(function[end], 0)
+            end += 1
+            if depth == 0:
+                break
+        found.append(function[begun:end])
+    return found
+
+
+def spoken(path, text):
+    """The declarations that a text of a file names."""
+    own = parts(path)[0] if path.endswith(".antt") else {}
+    for word in set(WORD.findall(text)):
+        if word in own:
+            yield path, word
+        elif word in meant(path):
+            yield meant(path)[word]
+
+
+@lru_cache(None)
+def reached():
+    """Every definition that a public contract or a public theorem goes by."""
+    def files(pattern):
+        return [os.path.relpath(path, ROOT) for path in sorted(glob.glob(os.path.join(ROOT, "crates/*", pattern)))]
+
+    todo = [name for path in files("src/*.rt") for text in contracts(read(path)) for name in spoken(path, text)]
+    todo += [name for path in files("proofs/*.antt") for text in parts(path)[1] for name in spoken(path, text)]
+    seen = set()
+    while todo:
+        path, name = todo.pop()
+        if (path, name) in seen or not os.path.isfile(os.path.join(ROOT, path)):
+            continue
+        seen.add((path, name))
+        text = parts(path)[0].get(name)
+        if text:
+            todo += spoken(path, text)
+            seen |= {(path, other) for other, same in parts(path)[0].items() if same is text}
+        elif name in meant(path):
+            todo.append(meant(path)[name])
+    return seen
+
+
 def stands(name, path):
     full = os.path.join(ROOT, path)
     if os.path.isdir(full):
@@ -65,6 +183,8 @@ def faults():
                 cited += 1
                 if not stands(name, place(path)):
                     found.append(f"{PAGE}:{number}: {name} does not stand in {place(path)}")
+                elif path.endswith(".antt") and "/specs/" in path and (place(path), name) not in reached():
+                    found.append(f"{PAGE}:{number}: {name} of {place(path)} is reached from no public contract and no theorem")
         if not text.startswith("| ") or text.startswith("| Sentence"):
             continue
         rows += 1

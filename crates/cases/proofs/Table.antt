@@ -8,7 +8,7 @@ use Rattle.ground.specs.Below.{allBelow, anyBelow}
 use Rattle.calendar.specs.Calendar.{leapYear, daysIn, daysOf, firstDay, monthStart, lastBegun, monthOf}
 use Rattle.units.specs.Units.{litresShown, baseShown, plusLitres, plusBase, pulseLitres, convertedOf, amountsOf}
 use Rattle.settings.specs.Settings.{rows, rowOf, isFinite, withinB, fitsRow, fitsB, factoryOf, factorySettings, opensB, rightB, fitsAt, settingsFitB, inOrder, orderedB}
-use Rattle.factor.specs.Factor.{nearestFraction, factorOf, inRange, inRanges, factorTaken}
+use Rattle.factor.specs.Factor.{nearestFraction, factorOf}
 use Rattle.temperature.specs.Equation.{equationOf}
 use Rattle.temperature.specs.Nearest.{nearestOf}
 use Rattle.readings.specs.Taken.{takenWithin}
@@ -26,5 +26,5 @@ use Rattle.doors.specs.Doors.{sessionAt, otherAt, placed, withSession, cellAt, 
 use Rattle.cases.specs.Cases.{sameWhole, sameMeasured, sameNumbers, sameFlag, sameAlarms, sameCounters, blank, monthsHeld, ranTo, holds, allHold, factoryDevice, withVm, table}
 
 pub every-row-holds : allHold table ≡ true
-unfolding ofBits ofInt add mul allBelow anyBelow leapYear daysIn daysOf firstDay monthStart lastBegun monthOf litresShown baseShown plusLitres plusBase pulseLitres convertedOf amountsOf rows rowOf isFinite withinB fitsRow fitsB factoryOf factorySettings opensB rightB fitsAt settingsFitB inOrder orderedB nearestFraction factorOf inRange inRanges factorTaken equationOf nearestOf takenWithin pressureRead pressureTaken kRead kTaken measuredTaken temperatureRead temperatureTaken kelvinOf ringAfter bookAfter onFrom slotAfter lineNumber advancedRing advancedBook ringB numberB bookB listed stored written heldLines noted numbered logged noSession noAlarm nothingCounted shutLocks freshCore fresh countersB latchedB storesB measuredB cellB cellsB sessionB coreB wholeB withCore monthsFrom monthsCrossed archiveLine monthLines coefficientsIn temperatureFor pressureFor kFor alarmsFor factorFor amountsFor isTooLarge anyAlarm counted latchesAfter changeNotes changes cycleRefusal cycledCore cycled cycleOf lockIn withLock rightCode turnCodes turnedCore turned openRefusal openOf sessionAt otherAt placed withSession cellAt withCell begun beginRefusal beginBy readRefusal valueRead markedRead readAfter readBy writeRefusal stagedCell writeAfter writeBy missingAt lockMissing overtakenAt staleB standsAt asStand commitRefusal changesAmong audited commitLines markedBy overtakenBy overtakenSession committedCore committed refusedCommit commitOf sameWhole sameMeasured sameNumbers sameFlag sameAlarms sameCounters blank monthsHeld ranTo holds allHold factoryDevice withVm table
+unfolding ofBits ofInt add mul allBelow anyBelow leapYear daysIn daysOf firstDay monthStart lastBegun monthOf litresShown baseShown plusLitres plusBase pulseLitres convertedOf amountsOf rows rowOf isFinite withinB fitsRow fitsB factoryOf factorySettings opensB rightB fitsAt settingsFitB inOrder orderedB nearestFraction factorOf equationOf nearestOf takenWithin pressureRead pressureTaken kRead kTaken measuredTaken temperatureRead temperatureTaken kelvinOf ringAfter bookAfter onFrom slotAfter lineNumber advancedRing advancedBook ringB numberB bookB listed stored written heldLines noted numbered logged noSession noAlarm nothingCounted shutLocks freshCore fresh countersB latchedB storesB measuredB cellB cellsB sessionB coreB wholeB withCore monthsFrom monthsCrossed archiveLine monthLines coefficientsIn temperatureFor pressureFor kFor alarmsFor factorFor amountsFor isTooLarge anyAlarm counted latchesAfter changeNotes changes cycleRefusal cycledCore cycled cycleOf lockIn withLock rightCode turnCodes turnedCore turned openRefusal openOf sessionAt otherAt placed withSession cellAt withCell begun beginRefusal beginBy readRefusal valueRead markedRead readAfter readBy writeRefusal stagedCell writeAfter writeBy missingAt lockMissing overtakenAt staleB standsAt asStand commitRefusal changesAmong audited commitLines markedBy overtakenBy overtakenSession committedCore committed refusedCommit commitOf sameWhole sameMeasured sameNumbers sameFlag sameAlarms sameCounters blank monthsHeld ranTo holds allHold factoryDevice withVm table
 every-row-holds = refl

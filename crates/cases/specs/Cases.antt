@@ -13,7 +13,7 @@ use Rattle.units.specs.declared.Amounts.the-variants.{Counted}
 use Rattle.units.specs.Units.{litresOf, baseOf}
 use Rattle.settings.specs.Settings.{factorySettings}
 use Rattle.settings.specs.declared.Value.the-variants.{Whole}
-use Rattle.factor.specs.Factor.{factorTaken}
+use Rattle.factor.specs.Factor.{factorOf}
 use Rattle.readings.specs.Kelvin.{kelvinOf}
 use Rattle.temperature.specs.declared.Measured.{Measured}
 use Rattle.temperature.specs.declared.Measured.the-variants.{Failed, Hundredths}
@@ -107,7 +107,7 @@ ranTo s steps numbers seen =
     sameNumbers (map (λ (a : Reply). numberOf a) (ran .0)) numbers && seen (ran .1)
 
 unfoldable pub holds : Case → Bool
-holds (factorCase p tb pb t k answer) = eqb (factorTaken p tb pb t k) answer
+holds (factorCase p tb pb t k answer) = eqb (factorOf p tb pb t k) answer
 holds (nearestCase x answer) = sameMeasured (nearestOf x) answer
 holds (measuredCase c raw answer) = sameMeasured (nearestOf (equationOf c raw)) answer
 holds (runCase s steps numbers) = ranTo s steps numbers (λ w. true)

@@ -1,5 +1,6 @@
--- The factor of a whole device's cycle is the paper's. What a whole state takes for p, T and K, and its pb and Tb, lie where the factor is
--- asked, so that the factor of a cycle is p·Tb·10^9 / (pb·T·K), nearest, halves up, and never the 0 that stands for what lies outside.
+-- What the code of a cycle works out is the paper's, in every whole state. The p, T and K that a whole state takes, and its pb and Tb, lie in
+-- the ranges for which the code works the factor out. So its factor is p·Tb·10^9 / (pb·T·K), nearest, halves up, and its amounts are the
+-- paper's up to 600 pulses.
 -- Settings 17 to 21 enter no formula: a cycle works with 1 to 16 alone.
 -- Assumes nothing.
 use mathlib.Core.Path.{_≡_, refl}
@@ -12,14 +13,16 @@ use lib.ListN.{length}
 use lib.IntN.{pos, _+ℤ_}
 use borrow.Author.Tests.{le-leb}
 use Rattle.settings.specs.declared.Setting.{Setting}
-use Rattle.settings.specs.Settings.{valueAt, settingsFitB}
-use Rattle.settings.proofs.Laws.{pb-in, tb-in, p-min-in, p-max-in, p-f-in, t-f-in, k-f-in}
+use Rattle.settings.specs.Settings.{valueAt, settingsFitB, cp, pb, tb, mdP, mdT, mdK, pMin, pMax, tMin, tMax, eq1, eq2, eq3, pF, tF, kF}
+use Rattle.settings.proofs.Laws.{cp-in, pb-in, tb-in, p-min-in, p-max-in, p-f-in, t-f-in, k-f-in}
 use Rattle.temperature.proofs.Nearest.{InRange}
 use Rattle.ground.specs.Ranges.{leastK, mostK, leastP, mostP, leastPb, mostPb, leastTb, mostTb, zeroCelsius}
-use Rattle.readings.specs.Kelvin.{kelvinOf}
-use Rattle.readings.proofs.Bounds.{Between, pressure-bounds, k-bounds, temperature-in-range, kelvin-bounds, kelvin-is}
-use Rattle.factor.specs.Factor.{factorOf, inRange, inRanges}
-use Rattle.factor.proofs.Laws.{taken, within-half, half-goes-up}
+use Rattle.readings.proofs.Bounds.{Between, pressure-bounds, k-bounds, temperature-in-range, kelvin-bounds, kelvin-is, guarded as kelvin-guarded}
+use Rattle.factor.specs.Factor.{numerator, denominator}
+use Rattle.factor.specs.Plan.{inRange, inRanges}
+use Rattle.factor.proofs.Laws.{within-half, half-goes-up, guarded as factor-guarded}
+use Rattle.units.specs.Units.{mostPulses}
+use Rattle.units.proofs.Counted.{guarded as amounts-guarded}
 use Rattle.books.specs.declared.ArchiveLine.{ArchiveLine}
 use Rattle.books.specs.declared.LogLine.{LogLine}
 use Rattle.state.specs.declared.State.{State}
@@ -27,7 +30,8 @@ use Rattle.state.specs.State.{wholeB, withCore}
 use Rattle.state.proofs.Sound.{whole-sound}
 use Rattle.commands.specs.declared.Brought.{Brought}
 use Rattle.commands.specs.Answers.{plain, Outcome, withBoth}
-use Rattle.cycle.specs.Cycle.{naturalAt, wholeAt, coefficientsIn, temperatureFor, pressureFor, kFor, kelvinFor, numeratorFor, denominatorFor, alarmsFor, factorFor, amountsFor, cycleRefusal, cycledCore, cycled, cycleOf}
+use Rattle.cycle.specs.Cycle.{naturalAt, wholeAt, coefficientsIn, temperatureFor, pressureFor, kFor, kelvinFor, alarmsFor, factorFor, amountsFor, cycleRefusal, cycledCore, cycled, cycleOf}
+use Rattle.cycle.specs.Plan.{factorPlanned, amountsPlanned}
 
 -- ---- what the settings let a cycle take
 
@@ -36,70 +40,88 @@ module _ (a : List Setting) (e : settingsFitB a ≡ true) (r : Brought) where
   unfolding pressureFor
   p-within =
       let f = p-f-in a e in
-      pressure-bounds leastP mostP (naturalAt a 4) (naturalAt a 7) (naturalAt a 8) (naturalAt a 14) (r .pressure) (p-min-in a e .from) (p-max-in a e .upto)
+      pressure-bounds leastP mostP (naturalAt a mdP) (naturalAt a pMin) (naturalAt a pMax) (naturalAt a pF) (r .pressure) (p-min-in a e .from) (p-max-in a e .upto)
       (record { not-below = f .from; not-above = f .upto })
 
   t-within : InRange (temperatureFor a r .value)
   unfolding temperatureFor
   t-within =
       let f = t-f-in a e in
-      temperature-in-range (naturalAt a 5) (wholeAt a 9) (wholeAt a 10) (wholeAt a 15) (coefficientsIn a) (r .raw) (record { not-colder = f .from; not-hotter = f .upto })
+      temperature-in-range (naturalAt a mdT) (wholeAt a tMin) (wholeAt a tMax) (wholeAt a tF) (coefficientsIn a) (r .raw) (record { not-colder = f .from; not-hotter = f .upto })
 
   k-within : Between leastK mostK (kFor a r .value)
   unfolding kFor
   k-within =
       let f = k-f-in a e in
-      k-bounds (naturalAt a 6) (naturalAt a 16) (r .k) (record { not-below = f .from; not-above = f .upto })
+      k-bounds (naturalAt a mdK) (naturalAt a kF) (r .k) (record { not-below = f .from; not-above = f .upto })
 
 range-held : (low high x : ℕ) → Between low high x → inRange low high x ≡ true
 unfolding inRange
 range-held low high x b = rw (le-leb low x (b .not-below), le-leb x high (b .not-above))
 
--- ---- the factor
+-- ---- the factor and the amounts
+
+-- the fraction that the factor is the nearest whole number to: p·Tb·10^9 over pb·T·K
+abbrev pub numeratorFor : List Setting → Brought → ℕ
+numeratorFor a r = numerator (pressureFor a r .value) (naturalAt a tb)
+
+abbrev pub denominatorFor : List Setting → Brought → ℕ
+denominatorFor a r = denominator (naturalAt a pb) (kelvinFor a r) (kFor a r .value)
 
 module _ (s : State) (w : wholeB s ≡ true) (r : Brought) where
-  -- a whole state asks for the factor inside its ranges only
-  pub asked-in-ranges : let a = s .core .settings in inRanges (pressureFor a r .value) (naturalAt a 3) (naturalAt a 2) (kelvinFor a r) (kFor a r .value) ≡ true
+  -- in a whole state what the factor is worked out from lies in the ranges of the code
+  pub asked-in-ranges : let a = s .core .settings in inRanges (pressureFor a r .value) (naturalAt a tb) (naturalAt a pb) (kelvinFor a r) (kFor a r .value) ≡ true
   unfolding inRanges
   asked-in-ranges =
       let a = s .core .settings in
       let e = whole-sound s w .core .fit in
       let x = tb-in a e in
       let y = pb-in a e in
-      rw (range-held _ _ _ (p-within a e r), range-held leastTb mostTb (naturalAt a 3) (record { not-below = x .from; not-above = x .upto }), range-held leastPb mostPb (naturalAt a 2) (record { not-below = y .from; not-above = y .upto }), range-held _ _ _ (kelvin-bounds (temperatureFor a r .value) (t-within a e r)), range-held _ _ _ (k-within a e r))
+      rw (range-held _ _ _ (p-within a e r), range-held leastTb mostTb (naturalAt a tb) (record { not-below = x .from; not-above = x .upto }), range-held leastPb mostPb (naturalAt a pb) (record { not-below = y .from; not-above = y .upto }), range-held _ _ _ (kelvin-bounds (temperatureFor a r .value) (t-within a e r)), range-held _ _ _ (k-within a e r))
 
-  -- T in kelvin is the T taken plus 27,315
+  -- T in kelvin is the T taken plus 27,315, as whole numbers with their signs
   pub kelvin-exact : let a = s .core .settings in pos (kelvinFor a r) ≡ temperatureFor a r .value +ℤ pos zeroCelsius
   kelvin-exact = kelvin-is (temperatureFor (s .core .settings) r .value) (t-within (s .core .settings) (whole-sound s w .core .fit) r)
 
-  -- the factor of a cycle is C of the p, T and K taken
-  pub factor-exact : let a = s .core .settings in factorFor a r ≡ factorOf (pressureFor a r .value) (naturalAt a 3) (naturalAt a 2) (kelvinFor a r) (kFor a r .value)
-  unfolding factorFor
-  factor-exact = taken _ _ _ _ _ asked-in-ranges
+  -- the factor that the code works out is C of the p, T and K taken
+  pub factor-exact : let a = s .core .settings in factorPlanned a r ≡ factorFor a r
+  unfolding factorPlanned factorFor
+  factor-exact =
+      let a = s .core .settings in
+      rw (kelvin-guarded (temperatureFor a r .value) (t-within a (whole-sound s w .core .fit) r)) (factor-guarded _ _ _ _ _ asked-in-ranges)
+
+  -- and up to 600 pulses its amounts are n times the pulse value, and that times the factor
+  pub amounts-exact : r .n ≤ mostPulses → let a = s .core .settings in amountsPlanned a r ≡ amountsFor a r
+  unfolding amountsPlanned amountsFor
+  amounts-exact few =
+      let a = s .core .settings in
+      rw factor-exact (amounts-guarded (r .n) (naturalAt a cp) (factorFor a r) few (cp-in a (whole-sound s w .core .fit) .upto))
 
   -- twice the gap between the factor times pb·T·K and the fraction's numerator is at most pb·T·K
   pub cycle-within-half : let a = s .core .settings in
       (2 * (factorFor a r * denominatorFor a r) ≤ 2 * numeratorFor a r + denominatorFor a r) × (2 * numeratorFor a r ≤ 2 * (factorFor a r * denominatorFor a r) + denominatorFor a r)
-  cycle-within-half = rw factor-exact (within-half _ _ _ _ _ asked-in-ranges)
+  unfolding factorFor
+  cycle-within-half = within-half _ _ _ _ _ asked-in-ranges
 
   -- a fraction just between q and q + 1 gives q + 1
   pub cycle-half-up : let a = s .core .settings in (q : ℕ) → 2 * numeratorFor a r ≡ (2 * q + 1) * denominatorFor a r → factorFor a r ≡ q + 1
-  cycle-half-up q h = rw factor-exact (half-goes-up _ _ _ _ _ q asked-in-ranges h)
+  unfolding factorFor
+  cycle-half-up q h = half-goes-up _ _ _ _ _ q asked-in-ranges h
 
 -- ---- settings 17 to 21
 
 module _ (a b : List Setting) (same : (k : ℕ) → k < 16 → valueAt a k ≡ valueAt b k) (r : Brought) where
   temperature-same : temperatureFor a r ≡ temperatureFor b r
   unfolding temperatureFor coefficientsIn
-  temperature-same = rw (same 4 (omega arith), same 8 (omega arith), same 9 (omega arith), same 10 (omega arith), same 11 (omega arith), same 12 (omega arith), same 14 (omega arith))
+  temperature-same = rw (same mdT (omega arith), same tMin (omega arith), same tMax (omega arith), same eq1 (omega arith), same eq2 (omega arith), same eq3 (omega arith), same tF (omega arith))
 
   pressure-same : pressureFor a r ≡ pressureFor b r
   unfolding pressureFor
-  pressure-same = rw (same 3 (omega arith), same 6 (omega arith), same 7 (omega arith), same 13 (omega arith))
+  pressure-same = rw (same mdP (omega arith), same pMin (omega arith), same pMax (omega arith), same pF (omega arith))
 
   k-same : kFor a r ≡ kFor b r
   unfolding kFor
-  k-same = rw (same 5 (omega arith), same 15 (omega arith))
+  k-same = rw (same mdK (omega arith), same kF (omega arith))
 
   -- settings that agree in 1 to 16 give the same alarms, the same factor, the same amounts
   pub alarms-same : alarmsFor a r ≡ alarmsFor b r
@@ -108,11 +130,11 @@ module _ (a b : List Setting) (same : (k : ℕ) → k < 16 → valueAt a k ≡ v
 
   pub factor-same : factorFor a r ≡ factorFor b r
   unfolding factorFor
-  factor-same = rw (pressure-same, temperature-same, k-same, same 1 (omega arith), same 2 (omega arith))
+  factor-same = rw (pressure-same, temperature-same, k-same, same pb (omega arith), same tb (omega arith))
 
   pub amounts-same : amountsFor a r ≡ amountsFor b r
   unfolding amountsFor
-  amounts-same = rw (factor-same, same 0 (omega arith))
+  amounts-same = rw (factor-same, same cp (omega arith))
 
 -- a state with other settings in force, and the outcome of a command with them
 abbrev pub withSettings : State → List Setting → State

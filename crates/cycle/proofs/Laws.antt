@@ -1,5 +1,5 @@
--- Laws of one measuring cycle, over the definitions: each present alarm is latched, the main counters stand still in a cycle with an alarm,
--- counters in range stay in range, no amount of a whole device is ever too large, and what the archive and the logbook hold afterwards.
+-- Laws of one measuring cycle, over the definitions: each present alarm is latched; the main counters stand still in a cycle with an alarm;
+-- counters in range stay in range; no amount of a whole device is ever too large; what the archive and the logbook hold afterwards.
 -- Assumes nothing.
 use mathlib.Core.Path.{_≡_, refl, sym, ap, _∙_}
 use mathlib.Core.Logic.{_≢_}
@@ -17,10 +17,10 @@ use Rattle.units.specs.Units.{litresRollover, baseRollover, litresOf, baseOf, p
 use Rattle.units.proofs.Sums.{litres-in-range, base-in-range}
 use Rattle.units.proofs.Counted.{never-more}
 use Rattle.settings.specs.declared.Setting.{Setting}
+use Rattle.settings.specs.Settings.{cp}
 use Rattle.settings.proofs.Laws.{cp-in}
-use Rattle.factor.proofs.Laws.{mostFactor, taken-most}
+use Rattle.factor.proofs.Laws.{mostFactor, factor-most}
 use Rattle.calendar.specs.Calendar.{endOfTime, monthOf}
-use Rattle.readings.specs.Kelvin.{kelvinOf}
 use Rattle.ring.specs.Ring.{archiveLines, logLines, ringAfter, FromFresh, advancedRing, advancedBook}
 use Rattle.ring.specs.Store.{written, heldLines}
 use Rattle.ring.proofs.Whole.{ring-from, book-from, log-common}
@@ -39,7 +39,8 @@ use Rattle.state.specs.State.{countersB, latchedB, wholeB}
 use Rattle.state.proofs.Card.{not-false}
 use Rattle.state.proofs.Sound.{whole-sound}
 use Rattle.commands.specs.declared.Brought.{Brought}
-use Rattle.cycle.specs.Cycle.{naturalAt, pressureFor, temperatureFor, kFor, alarmsFor, factorFor, amountsFor, isTooLarge, anyAlarm, counted, latchesAfter, changes, monthLines, cycleRefusal, cycledCore, cycled}
+use Rattle.cycle.specs.Cycle.{naturalAt, alarmsFor, factorFor, amountsFor, isTooLarge, anyAlarm, counted, latchesAfter, changes, monthLines, cycleRefusal, cycledCore, cycled}
+use Rattle.cycle.proofs.Exact.{asked-in-ranges}
 
 -- ---- alarms and latches
 
@@ -112,19 +113,19 @@ counters-stay c true (Counted v b) e =
 
 -- ---- the amounts of a whole device
 
-pub factor-at-most : (a : List Setting) (r : Brought) → factorFor a r ≤ mostFactor
+pub factor-at-most : (s : State) (r : Brought) → wholeB s ≡ true → factorFor (s .core .settings) r ≤ mostFactor
 unfolding factorFor
-factor-at-most a r = taken-most (pressureFor a r .value) (naturalAt a 3) (naturalAt a 2) (kelvinOf (temperatureFor a r .value)) (kFor a r .value)
+factor-at-most s r w = factor-most _ _ _ _ _ (asked-in-ranges s w r)
 
 module _ (s : State) (r : Brought) (w : wholeB s ≡ true) (few : r .n ≤ mostPulses) where
   -- n times the pulse value, and that times the factor
   pub amounts-counted : amountsFor (s .core .settings) r
-      ≡ Counted (litresOf (r .n * pulseLitres (naturalAt (s .core .settings) 1)))
-      (baseOf (r .n * pulseLitres (naturalAt (s .core .settings) 1) * factorFor (s .core .settings) r))
+      ≡ Counted (litresOf (r .n * pulseLitres (naturalAt (s .core .settings) cp)))
+      (baseOf (r .n * pulseLitres (naturalAt (s .core .settings) cp) * factorFor (s .core .settings) r))
   unfolding amountsFor
   amounts-counted =
       let a : List Setting = s .core .settings in
-      never-more (r .n) (naturalAt a 1) (factorFor a r) few (cp-in a (whole-sound s w .core .fit) .upto) (omega (arith, factor-at-most a r))
+      never-more (r .n) (naturalAt a cp) (factorFor a r) few (cp-in a (whole-sound s w .core .fit) .upto) (omega (arith, factor-at-most s r w))
 
   pub never-too-large : isTooLarge (amountsFor (s .core .settings) r) ≡ false
   unfolding isTooLarge
@@ -133,9 +134,9 @@ module _ (s : State) (r : Brought) (w : wholeB s ≡ true) (few : r .n ≤ mostP
   -- so a cycle counts them, to the main counters or to the disturbed ones
   pub counts-main : anyAlarm (alarmsFor (s .core .settings) r) ≡ false → cycledCore (s .core) r .measured .counters
       ≡ record {
-        vm = plusLitres (s .core .measured .counters .vm) (litresOf (r .n * pulseLitres (naturalAt (s .core .settings) 1)));
+        vm = plusLitres (s .core .measured .counters .vm) (litresOf (r .n * pulseLitres (naturalAt (s .core .settings) cp)));
         vmd = s .core .measured .counters .vmd;
-        vb = plusBase (s .core .measured .counters .vb) (baseOf (r .n * pulseLitres (naturalAt (s .core .settings) 1) * factorFor (s .core .settings) r));
+        vb = plusBase (s .core .measured .counters .vb) (baseOf (r .n * pulseLitres (naturalAt (s .core .settings) cp) * factorFor (s .core .settings) r));
         vbd = s .core .measured .counters .vbd;
       }
   unfolding cycledCore counted
@@ -144,9 +145,9 @@ module _ (s : State) (r : Brought) (w : wholeB s ≡ true) (few : r .n ≤ mostP
   pub counts-disturbed : anyAlarm (alarmsFor (s .core .settings) r) ≡ true → cycledCore (s .core) r .measured .counters
       ≡ record {
         vm = s .core .measured .counters .vm;
-        vmd = plusLitres (s .core .measured .counters .vmd) (litresOf (r .n * pulseLitres (naturalAt (s .core .settings) 1)));
+        vmd = plusLitres (s .core .measured .counters .vmd) (litresOf (r .n * pulseLitres (naturalAt (s .core .settings) cp)));
         vb = s .core .measured .counters .vb;
-        vbd = plusBase (s .core .measured .counters .vbd) (baseOf (r .n * pulseLitres (naturalAt (s .core .settings) 1) * factorFor (s .core .settings) r));
+        vbd = plusBase (s .core .measured .counters .vbd) (baseOf (r .n * pulseLitres (naturalAt (s .core .settings) cp) * factorFor (s .core .settings) r));
       }
   unfolding cycledCore counted
   counts-disturbed h = rw (h, amounts-counted)

@@ -1,9 +1,9 @@
 -- One measuring cycle, in the paper's order of work. Document 01, "One measuring cycle".
 -- Assumes nothing.
-use Prim.Native.Nat.{ℕ, zero, suc, _+_, _-_, _%_}
+use Prim.Native.Nat.{ℕ, zero, suc, _+_, _-_}
 use mathlib.Core.Bool.{Bool, true, false, not, cond, _&&_, _||_}
 use mathlib.Core.List.{List, [], _∷_, map}
-use lib.ListN.{length, getD}
+use lib.ListN.{length}
 use lib.IntN.{ℤ}
 use lib.Ieee.{Float}
 use lib.Dec.{ltb, leb, eqb}
@@ -13,7 +13,7 @@ use Rattle.units.specs.declared.Amounts.{Amounts}
 use Rattle.units.specs.declared.Amounts.the-variants.{TooLarge, Counted}
 use Rattle.units.specs.Units.{plusLitres, plusBase, mostPulses, amountsOf}
 use Rattle.settings.specs.declared.Setting.{Setting}
-use Rattle.settings.specs.Settings.{noSetting, wholeOf, naturalOf, coefficientOf}
+use Rattle.settings.specs.Settings.{valueAt, wholeOf, naturalOf, coefficientOf, cp, pb, tb, mdP, mdT, mdK, pMin, pMax, tMin, tMax, eq1, eq2, eq3, pF, tF, kF}
 use Rattle.calendar.specs.Calendar.{endOfTime, monthOf}
 use Rattle.ring.specs.declared.Ring.{Ring}
 use Rattle.ring.specs.declared.Book.{Book}
@@ -28,7 +28,7 @@ use Rattle.readings.specs.Pressure.{pressureTaken}
 use Rattle.readings.specs.Compressibility.{kTaken}
 use Rattle.readings.specs.Temperature.{temperatureTaken}
 use Rattle.readings.specs.Kelvin.{kelvinOf}
-use Rattle.factor.specs.Factor.{numerator, denominator, factorTaken}
+use Rattle.factor.specs.Factor.{factorOf}
 use Rattle.books.specs.declared.ArchiveLine.{ArchiveLine}
 use Rattle.books.specs.declared.LogLine.{LogLine}
 use Rattle.state.specs.declared.Counters.{Counters}
@@ -44,15 +44,15 @@ use Rattle.notes.specs.Notes.{noteOf, noted, logged}
 use Rattle.commands.specs.declared.Brought.{Brought}
 use Rattle.commands.specs.Answers.{plain, Outcome, withBoth}
 
--- The settings by their numbers in the table.
+-- The value in force of a setting, as a plain number. A setting is given by its name, which is its place in the table.
 abbrev pub naturalAt : List Setting → ℕ → ℕ
-naturalAt a number = naturalOf (getD a (number - 1) noSetting .value)
+naturalAt a setting = naturalOf (valueAt a setting)
 
 abbrev pub wholeAt : List Setting → ℕ → ℤ
-wholeAt a number = wholeOf (getD a (number - 1) noSetting .value)
+wholeAt a setting = wholeOf (valueAt a setting)
 
 abbrev pub coefficientAt : List Setting → ℕ → Float
-coefficientAt a number = coefficientOf (getD a (number - 1) noSetting .value)
+coefficientAt a setting = coefficientOf (valueAt a setting)
 
 -- ---- 1. Months
 
@@ -76,41 +76,34 @@ monthLines c a b = map (archiveLine c) (monthsCrossed a b)
 -- ---- 2. Temperature, 3. Pressure, 4. K: what is taken, and whether it alarms
 
 unfoldable pub coefficientsIn : List Setting → Coefficients
-coefficientsIn a = record { eq1 = coefficientAt a 11; eq2 = coefficientAt a 12; eq3 = coefficientAt a 13 }
+coefficientsIn a = record { eq1 = coefficientAt a eq1; eq2 = coefficientAt a eq2; eq3 = coefficientAt a eq3 }
 
 unfoldable pub temperatureFor : List Setting → Brought → TakenTemperature
-temperatureFor a r = temperatureTaken (naturalAt a 5) (wholeAt a 9) (wholeAt a 10) (wholeAt a 15) (coefficientsIn a) (r .raw)
+temperatureFor a r = temperatureTaken (naturalAt a mdT) (wholeAt a tMin) (wholeAt a tMax) (wholeAt a tF) (coefficientsIn a) (r .raw)
 
 unfoldable pub pressureFor : List Setting → Brought → Taken
-pressureFor a r = pressureTaken (naturalAt a 4) (naturalAt a 7) (naturalAt a 8) (naturalAt a 14) (r .pressure)
+pressureFor a r = pressureTaken (naturalAt a mdP) (naturalAt a pMin) (naturalAt a pMax) (naturalAt a pF) (r .pressure)
 
 unfoldable pub kFor : List Setting → Brought → Taken
-kFor a r = kTaken (naturalAt a 6) (naturalAt a 16) (r .k)
+kFor a r = kTaken (naturalAt a mdK) (naturalAt a kF) (r .k)
 
 -- an alarm is present as this cycle found it
 unfoldable pub alarmsFor : List Setting → Brought → Alarms
 alarmsFor a r = record { p = pressureFor a r .alarm; t = temperatureFor a r .alarm; k = kFor a r .alarm }
 
--- ---- 5. Factor: p, Tb, pb, T in kelvin, K
+-- ---- 5. Factor: of p, Tb, pb, T in kelvin and K
 
 abbrev pub kelvinFor : List Setting → Brought → ℕ
 kelvinFor a r = kelvinOf (temperatureFor a r .value)
 
 unfoldable pub factorFor : List Setting → Brought → ℕ
-factorFor a r = factorTaken (pressureFor a r .value) (naturalAt a 3) (naturalAt a 2) (kelvinFor a r) (kFor a r .value)
-
--- the fraction that the factor of a whole device is the nearest whole number to: p·Tb·10^9 over pb·T·K
-abbrev pub numeratorFor : List Setting → Brought → ℕ
-numeratorFor a r = numerator (pressureFor a r .value) (naturalAt a 3)
-
-abbrev pub denominatorFor : List Setting → Brought → ℕ
-denominatorFor a r = denominator (naturalAt a 2) (kelvinFor a r) (kFor a r .value)
+factorFor a r = factorOf (pressureFor a r .value) (naturalAt a tb) (naturalAt a pb) (kelvinFor a r) (kFor a r .value)
 
 -- ---- 6. Counting
 
 -- n times the pulse value, and that times the factor
 unfoldable pub amountsFor : List Setting → Brought → Amounts
-amountsFor a r = amountsOf (r .n) (naturalAt a 1) (factorFor a r)
+amountsFor a r = amountsOf (r .n) (naturalAt a cp) (factorFor a r)
 
 unfoldable pub isTooLarge : Amounts → Bool
 isTooLarge TooLarge = true
@@ -119,8 +112,8 @@ isTooLarge (Counted v b) = false
 unfoldable pub anyAlarm : Alarms → Bool
 anyAlarm a = a .p || a .t || a .k
 
--- to the main counters, and the disturbed ones stand still; or, if any alarm is present, the whole of both to the disturbed ones, and the
--- main counters stand still
+-- Without an alarm both amounts go to the main counters, and with one the whole of both goes to the disturbed counters. The other two stand
+-- still.
 unfoldable pub counted : Counters → Bool → Amounts → Counters
 counted c disturbed TooLarge = c
 counted c false (Counted v b) = record { vm = plusLitres (c .vm) v; vmd = c .vmd; vb = plusBase (c .vb) b; vbd = c .vbd }
@@ -132,13 +125,13 @@ counted c true (Counted v b) = record { vm = c .vm; vmd = plusLitres (c .vmd) v;
 unfoldable pub latchesAfter : Alarms → Alarms → Alarms
 latchesAfter latch found = record { p = found .p || latch .p; t = found .t || latch .t; k = found .k || latch .k }
 
--- what may be noted of the alarms that came or went: p, T, K, the "came" lines before the "went" lines
+-- the lines that a change of the alarms may bring: order p, T, K, the "came" lines before the "went" lines. Each has its condition and its code
 unfoldable pub changeNotes : Alarms → Alarms → List Note
 changeNotes before found =
     noteOf (found .p && not (before .p)) 11 ∷ noteOf (found .t && not (before .t)) 12 ∷ noteOf (found .k && not (before .k)) 13
     ∷ noteOf (before .p && not (found .p)) 21 ∷ noteOf (before .t && not (found .t)) 22 ∷ noteOf (before .k && not (found .k)) 23 ∷ []
 
--- the codes of those that did
+-- the codes of the lines whose condition holds
 unfoldable pub changes : Alarms → Alarms → List ℕ
 changes before found = noted (changeNotes before found)
 
@@ -154,7 +147,7 @@ cycleRefusal sound s archiveLength logLength r = firstOf (
     ∷ (14, isTooLarge (amountsFor (s .core .settings) r))
     ∷ [])
 
--- what was measured after a cycle at a time, by the alarms found and the amounts
+-- what is measured after a cycle at a time, from the alarms found and the amounts
 abbrev pub measuredBy : Measured → ℕ → Alarms → Amounts → Measured
 measuredBy m time found amounts = record {
   time = time;
@@ -176,8 +169,8 @@ cycledCore c r = record {
   };
 }
 
--- where no refusal applies: the state after it, the archive with a line for every month crossed, and the logbook with the alarms that came
--- or went, at the cycle's own time
+-- What an accepted cycle gives: the state after it, the archive with a line for every month crossed, and the logbook with a line for each alarm
+-- that came or went, at the cycle's own time.
 unfoldable pub cycled : State → Brought → List ArchiveLine → List LogLine → Outcome
 cycled s r archive log =
     withBoth
@@ -185,7 +178,7 @@ cycled s r archive log =
     (written archiveLines (s .core .stores .archive) archive (monthLines (s .core .measured .counters) (s .core .measured .month) (monthOf (r .time))))
     (written logLines (s .core .stores .log .ring) log (logged (s .core .stores .log) (r .time) (changes (s .core .measured .alarms) (alarmsFor (s .core .settings) r))))
 
--- a refusal returns its number, and leaves all as it was
+-- the cycle: accepted where no refusal applies; a refused one returns its number and leaves everything as it was
 unfoldable pub cycleOf : State → Brought → List ArchiveLine → List LogLine → Outcome
 cycleOf s r archive log =
     let number = cycleRefusal (wholeB s) s (length archive) (length log) r in

@@ -1,13 +1,13 @@
--- What the factor keeps of the exact fraction p·Tb·10^9 / (pb·T·K), and how large it gets.
+-- The factor beside the exact fraction p·Tb·10^9 / (pb·T·K): how near it is, when it is exactly 1, and how large it gets.
 -- Assumes nothing.
-use mathlib.Core.Path.{_≡_, refl}
-use mathlib.Core.Bool.{true, false}
+use mathlib.Core.Path.{_≡_, refl, sym}
+use mathlib.Core.Bool.{true}
 use Prim.Native.Nat.{ℕ, _+_, _*_, _≤_, _<_}
-use native.Mathlib.Nat.{add-mul, div-lt-iff-lt-mul}
+use native.Mathlib.Nat.{add-mul, mul-le-mul, div-lt-iff-lt-mul}
 use native.Mathlib.Omega.{arith}
-use Rattle.ground.specs.Ranges.{leastK, mostP, leastPb, mostTb, leastKelvin}
-use Rattle.ground.proofs.Flags.{Either, is-true, is-false, either-of}
-use Rattle.factor.specs.Factor.{numerator, denominator, nearestFraction, factorOf, inRange, inRanges, factorTaken}
+use Rattle.ground.specs.Ranges.{kScale, leastK, mostP, leastPb, mostTb, leastKelvin}
+use Rattle.factor.specs.Factor.{numerator, denominator, nearestFraction, factorOf}
+use Rattle.factor.specs.Plan.{inRange, inRanges, factorGuarded}
 use Rattle.factor.proofs.Division.{half-unit, nearest-only, halves-up}
 use Rattle.factor.proofs.Ranges.{products}
 
@@ -16,14 +16,10 @@ abbrev pub mostFactor : ℕ
 mostFactor = 38264831
 
 module _ (p tb pb t k : ℕ) where
-  -- inside the ranges the factor taken is the factor; outside it is 0
-  pub taken : inRanges p tb pb t k ≡ true → factorTaken p tb pb t k ≡ factorOf p tb pb t k
-  unfolding factorTaken
-  taken e = rw e
-
-  pub not-taken : inRanges p tb pb t k ≡ false → factorTaken p tb pb t k ≡ 0
-  unfolding factorTaken
-  not-taken e = rw e
+  -- inside the ranges what the code works out is the factor
+  pub guarded : inRanges p tb pb t k ≡ true → factorGuarded p tb pb t k ≡ factorOf p tb pb t k
+  unfolding factorGuarded
+  guarded e = rw e
 
   -- twice the gap between the factor times pb·T·K and the numerator is at most pb·T·K
   pub within-half : inRanges p tb pb t k ≡ true → (2 * (factorOf p tb pb t k * denominator pb t k) ≤ 2 * numerator p tb + denominator pb t k) × (2 * numerator p tb ≤ 2 * (factorOf p tb pb t k * denominator pb t k) + denominator pb t k)
@@ -43,6 +39,7 @@ module _ (p tb pb t k : ℕ) where
   unfolding factorOf
   factor-only f a b = nearest-only (numerator p tb) (denominator pb t k) f a b
 
+  -- how large it can get
   pub factor-most : inRanges p tb pb t k ≡ true → factorOf p tb pb t k ≤ mostFactor
   unfolding factorOf nearestFraction
   factor-most e =
@@ -51,15 +48,14 @@ module _ (p tb pb t k : ℕ) where
       let h : factorOf p tb pb t k < mostFactor + 1 = div-lt-iff-lt-mul o .1 (omega arith) in
       omega arith
 
-  -- so whatever is asked, the factor taken is no larger
-  pub taken-most : factorTaken p tb pb t k ≤ mostFactor
-  taken-most = most (either-of (inRanges p tb pb t k))
-    where
-      most : Either (inRanges p tb pb t k) → factorTaken p tb pb t k ≤ mostFactor
-      most (is-true e) = rw (taken e) (factor-most e)
-      most (is-false e) = rw (not-taken e) (omega arith)
-
 -- and there is a factor that large
-pub most-reached : factorTaken mostP mostTb leastPb leastKelvin leastK ≡ mostFactor
-unfolding factorTaken inRanges inRange factorOf nearestFraction
+pub most-reached : factorGuarded mostP mostTb leastPb leastKelvin leastK ≡ mostFactor
+unfolding factorGuarded inRanges inRange factorOf nearestFraction
 most-reached = refl
+
+-- H1, whatever pb and Tb: p = pb, T = Tb and K = 1 give a factor of exactly 1
+pub one-exactly : (pb tb : ℕ) → 0 < pb → 0 < tb → factorOf pb tb pb tb kScale ≡ 100000
+unfolding factorOf
+one-exactly pb tb h k =
+    let m : 1 * 1 ≤ pb * tb = mul-le-mul h k in
+    sym (nearest-only (numerator pb tb) (denominator pb tb kScale) 100000 (omega arith) (omega arith))

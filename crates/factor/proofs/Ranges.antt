@@ -8,7 +8,8 @@ use lib.Dec.{leb}
 use borrow.Author.Tests.{leb-true}
 use Rattle.ground.proofs.Flags.{and-left, and-right}
 use Rattle.ground.specs.Ranges.{leastK, mostK, leastP, mostP, leastPb, mostPb, leastTb, mostTb, leastKelvin, mostKelvin}
-use Rattle.factor.specs.Factor.{inRange, inRanges, denominator}
+use Rattle.factor.specs.Factor.{denominator}
+use Rattle.factor.specs.Plan.{inRange, inRanges}
 
 pub record Ends (low high x : ℕ) : Type 0 where
   pub least : low ≤ x

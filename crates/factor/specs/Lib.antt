@@ -1,2 +1,3 @@
 -- What the factor is.
 pub mod Factor
+pub mod Plan

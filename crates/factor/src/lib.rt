@@ -4,9 +4,11 @@ use ground::ranges;
 ghost use mathlib.Core.Path.{_≡_};
 ghost use mathlib.Core.Bool.{true};
 ghost use Prim.Native.Nat.{_*_, _≤_};
-ghost use Rattle.factor.specs.Factor.{inRange, inRanges, nearestFraction, factorOf, factorTaken};
+ghost use Rattle.factor.specs.Factor.{nearestFraction, factorOf};
+ghost use Rattle.factor.specs.Plan.{inRange, inRanges, factorGuarded};
 
-// The second step of the division; the first takes all of the numerator but this.
+// The numerator p·Tb·10^9 is (p·Tb·FIRST_STEP)·SECOND_STEP. The part in brackets fits 64 bits and is divided first; what is left over is
+// then divided with SECOND_STEP.
 const SECOND_STEP: u64 = 1000;
 
 const FIRST_STEP: u64 = 100 * ranges::K_SCALE;
@@ -56,9 +58,10 @@ fn factor(p: u64, tb: u64, pb: u64, t: u64, k: u64) -> u64
     nearest(x, d)
 }
 
-// The factor of a cycle; 0 where an input is outside its range, which a whole device never asks.
+// The factor of a cycle. Outside the ranges of its inputs the products might not fit 64 bits, so it gives 0 there; a whole device never
+// asks that.
 pub fn factor_taken(p: u64, tb: u64, pb: u64, t: u64, k: u64) -> u64
-    ensures { λ r. ⌜ r ≡ factorTaken p tb pb t k ⌝ }
+    ensures { λ r. ⌜ r ≡ factorGuarded p tb pb t k ⌝ }
 {
     let good = in_ranges(p, tb, pb, t, k);
     if good { factor(p, tb, pb, t, k) } else { 0 }

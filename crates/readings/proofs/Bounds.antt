@@ -31,6 +31,7 @@ use Rattle.ground.specs.Ranges.{leastK, mostK, zeroCelsius, leastKelvin, mostKe
 use Rattle.readings.specs.Compressibility.{kTaken, kRead}
 use Rattle.readings.specs.Temperature.{measuredTaken, temperatureRead, temperatureTaken}
 use Rattle.readings.specs.Kelvin.{kelvinOf}
+use Rattle.readings.specs.Plan.{kelvinGuarded}
 
 -- a choice is good where both of what it chooses from are
 choice : {A : Type 0} (P : A → Type 0) (b : Bool) {x y : A} → (b ≡ true → P x) → (b ≡ false → P y) → P (cond b x y)
@@ -96,17 +97,22 @@ pub kelvin-bounds : (t : ℤ) → InRange t → Between leastKelvin mostKelvin (
 unfolding kelvinOf
 kelvin-bounds (pos n) r =
     let h : n ≤ 20000 = ltb-false 20000 n (r .not-hotter) in
-    simp (r .not-hotter) (record { not-below = omega arith; not-above = omega arith })
+    record { not-below = omega arith; not-above = omega arith }
 kelvin-bounds (negsuc n) r =
     let h : n ≤ 9999 = ltb-false 9999 n (r .not-colder) in
     let k : ltb zeroCelsius (suc n) ≡ false = le-ltb zeroCelsius (suc n) (omega arith) in
-    simp (r .not-colder, k) (record { not-below = omega arith; not-above = omega arith })
+    simp k (record { not-below = omega arith; not-above = omega arith })
 
--- within -10,000..20,000 it is T plus 27,315, and not the 0 of the rest
+-- within -10,000..20,000 the sum is not below 0, so that T in kelvin is the sum itself
 pub kelvin-is : (t : ℤ) → InRange t → pos (kelvinOf t) ≡ t +ℤ pos zeroCelsius
 unfolding kelvinOf
-kelvin-is (pos n) r = simp (r .not-hotter)
+kelvin-is (pos n) r = refl
 kelvin-is (negsuc n) r =
     let h : n ≤ 9999 = ltb-false 9999 n (r .not-colder) in
     let k : ltb zeroCelsius (suc n) ≡ false = le-ltb zeroCelsius (suc n) (omega arith) in
-    simp (r .not-colder, k)
+    simp k
+
+-- and it is what the code works out
+pub guarded : (t : ℤ) → InRange t → kelvinGuarded t ≡ kelvinOf t
+unfolding kelvinGuarded
+guarded t r = rw (r .not-colder, r .not-hotter)

@@ -1,10 +1,8 @@
--- T in kelvin: 0.01 °C plus 27,315; 0 for what lies outside -10,000..20,000, which no setting and no T.Mes does.
+-- T in kelvin: 0.01 °C plus 27,315. T is never below -100.00 °C, so the sum is never below 0, and its size is the sum itself.
 -- Assumes nothing.
 use Prim.Native.Nat.{ℕ}
-use mathlib.Core.Bool.{_||_, cond}
 use lib.IntN.{ℤ, pos, _+ℤ_, natAbs}
-use lib.Signed.{ltZ}
-use Rattle.ground.specs.Ranges.{coldest, hottest, zeroCelsius}
+use Rattle.ground.specs.Ranges.{zeroCelsius}
 
 unfoldable pub kelvinOf : ℤ → ℕ
-kelvinOf t = cond (ltZ t coldest || ltZ hottest t) 0 (natAbs (t +ℤ pos zeroCelsius))
+kelvinOf t = natAbs (t +ℤ pos zeroCelsius)

@@ -4,3 +4,4 @@ pub mod Pressure
 pub mod Compressibility
 pub mod Temperature
 pub mod Kelvin
+pub mod Plan

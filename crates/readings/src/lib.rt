@@ -5,7 +5,7 @@ ghost use Rattle.readings.specs.Taken.{takenWithin};
 ghost use Rattle.readings.specs.Pressure.{pressureTaken};
 ghost use Rattle.readings.specs.Compressibility.{kTaken};
 ghost use Rattle.readings.specs.Temperature.{temperatureTaken, measuredTaken};
-ghost use Rattle.readings.specs.Kelvin.{kelvinOf};
+ghost use Rattle.readings.specs.Plan.{kelvinGuarded};
 
 pub enum RawTemperature {
     Failed,
@@ -145,9 +145,9 @@ pub fn temperature_taken(
     measured_taken(lowest, highest, fixed, temperature::measure(c, raw))
 }
 
-// 0 where t is no temperature that a setting or T.Mes can be, so that the sum always fits.
+// T in kelvin. Outside the range of T the sum might not fit, so it gives 0 there; no setting and no T.Mes lies there.
 pub fn kelvin(t: i64) -> u64
-    ensures { λ r. ⌜ r ≡ kelvinOf t ⌝ }
+    ensures { λ r. ⌜ r ≡ kelvinGuarded t ⌝ }
 {
     let cold = ground::less(t, ranges::COLDEST);
     let hot = ground::less(ranges::HOTTEST, t);

@@ -2,22 +2,22 @@
 -- of the run; a step that is no cycle leaves the counters.
 -- Assumes nothing.
 use mathlib.Core.Path.{_≡_, refl, sym, ap, _∙_}
-use mathlib.Core.Bool.{Bool, true, false, cond, _&&_, true≢false}
+use mathlib.Core.Bool.{Bool, true, false, cond, true≢false}
 use mathlib.Core.List.{List, [], _∷_}
 use Prim.Native.Nat.{ℕ, _+_, _%_}
 use native.Mathlib.Nat.{add-zero, mod-add-mod}
 use mathlib.Core.Logic.{_⊎_, inl, inr}
-use lib.Dec.{ltb, leb, eqb}
+use lib.Dec.{ltb, eqb}
 use borrow.Author.Tests.{eqb-true}
 use Rattle.order.specs.Order.{run}
 use Rattle.units.specs.declared.Amounts.the-variants.{Counted}
-use Rattle.units.specs.Units.{litresRollover, baseRollover, litresOf, baseOf, litresShown, baseShown, plusLitres, plusBase, mostPulses, mostCode, convertedOf, amountsOf}
+use Rattle.units.specs.Units.{litresRollover, baseRollover, litresOf, baseOf, litresShown, baseShown, plusLitres, plusBase, convertedOf, amountsOf}
 use Rattle.settings.specs.declared.Setting.{Setting}
 use Rattle.state.specs.declared.Counters.{Counters}
 use Rattle.state.specs.State.{nothingCounted, fresh, freshCore}
 use Rattle.state.specs.Card.{firstOf}
 use Rattle.commands.specs.declared.Brought.{Brought}
-use Rattle.cycle.specs.Cycle.{naturalAt, amountsFor, isTooLarge, counted, anyAlarm, alarmsFor, cycledCore, cycled}
+use Rattle.cycle.specs.Cycle.{amountsFor, isTooLarge, counted, anyAlarm, alarmsFor, cycledCore, cycled}
 use Rattle.panel.specs.Panel.{turnedCore, turned, cleared, startOf, startRefusal}
 use Rattle.doors.specs.Doors.{placed, withSession, readAfter, writeAfter, committedCore, committed}
 use Rattle.books.specs.declared.ArchiveLine.{ArchiveLine}
@@ -37,15 +37,14 @@ countersIn b = b .core .measured .counters
 
 -- ---- the amounts of an accepted cycle
 
-amounts-by : (a : List Setting) (r : Brought) (p q : Bool) → (leb (r .n) mostPulses && leb (naturalAt a 1) mostCode) ≡ p → ltb (baseBy a r) baseRollover ≡ q
+amounts-by : (a : List Setting) (r : Brought) (less : Bool) → ltb (baseBy a r) baseRollover ≡ less
     → isTooLarge (amountsFor a r) ≡ false → amountsFor a r ≡ Counted (litresOf (litresBy a r)) (baseOf (baseBy a r))
 unfolding amountsFor amountsOf convertedOf isTooLarge litresBy baseBy
-amounts-by a r true true e f h = rw (e, f)
-amounts-by a r true false e f h = absurd (true≢false (rw (e, f) at h))
-amounts-by a r false q e f h = absurd (true≢false (rw e at h))
+amounts-by a r true e h = rw e
+amounts-by a r false e h = absurd (true≢false (rw e at h))
 
 amounts-are : (a : List Setting) (r : Brought) → isTooLarge (amountsFor a r) ≡ false → amountsFor a r ≡ Counted (litresOf (litresBy a r)) (baseOf (baseBy a r))
-amounts-are a r h = amounts-by a r (leb (r .n) mostPulses && leb (naturalAt a 1) mostCode) (ltb (baseBy a r) baseRollover) refl refl h
+amounts-are a r h = amounts-by a r (ltb (baseBy a r) baseRollover) refl h
 
 -- ---- one cycle
 

@@ -6,6 +6,7 @@ use mathlib.Core.Bool.{Bool, cond}
 use mathlib.Core.List.{List, [], _∷_}
 use Rattle.units.specs.Units.{litresRollover, baseRollover, pulseLitres}
 use Rattle.settings.specs.declared.Setting.{Setting}
+use Rattle.settings.specs.Settings.{cp}
 use Rattle.state.specs.declared.Counters.{Counters}
 use Rattle.commands.specs.declared.Brought.{Brought}
 use Rattle.cycle.specs.Cycle.{naturalAt, alarmsFor, anyAlarm, factorFor}
@@ -18,7 +19,7 @@ pub data Counter : Type 0 where
 
 -- n times the pulse value
 unfoldable pub litresBy : List Setting → Brought → ℕ
-litresBy a r = r .n * pulseLitres (naturalAt a 1)
+litresBy a r = r .n * pulseLitres (naturalAt a cp)
 
 -- and that times the factor
 unfoldable pub baseBy : List Setting → Brought → ℕ

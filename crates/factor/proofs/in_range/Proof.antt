@@ -1,7 +1,7 @@
 -- `factor::in_range` meets its contract: its two tests are the definition's.
 -- Assumes nothing.
 use borrow.Author.Needs.{needs}
-use Rattle.factor.specs.Factor.{inRange}
+use Rattle.factor.specs.Plan.{inRange}
 use Rattle.factor.proofs.in_range.Statement.{statement}
 use Rattle.factor.proofs.in_range.Tie as tie
 

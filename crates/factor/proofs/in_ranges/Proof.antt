@@ -1,7 +1,7 @@
 -- `factor::in_ranges` meets its contract: five tests, joined as the definition joins them.
 -- Assumes nothing.
 use borrow.Author.Needs.{needs}
-use Rattle.factor.specs.Factor.{inRanges}
+use Rattle.factor.specs.Plan.{inRanges}
 use Rattle.factor.proofs.in_ranges.Statement.{statement}
 use Rattle.factor.proofs.in_ranges.Tie as tie
 

@@ -10,6 +10,7 @@ use Rattle.ground.proofs.Flags.{or-false-left, or-false-right}
 use Rattle.ground.proofs.Signed.{lt-back, Cast, cast, shifted}
 use Rattle.ground.specs.Ranges.{coldest, hottest, zeroCelsius}
 use Rattle.readings.specs.Kelvin.{kelvinOf}
+use Rattle.readings.specs.Plan.{kelvinGuarded}
 use Rattle.readings.proofs.kelvin.Statement.{statement}
 use Rattle.readings.proofs.kelvin.Tie as tie
 
@@ -39,7 +40,7 @@ either-requires : tie.Need-either-requires
 either-requires c κs = search needs
 
 returns : tie.Need-returns
-unfolding kelvinOf
+unfolding kelvinGuarded kelvinOf
 returns c = simp (outside (c .before), c .if1 .taken)
 
 add-result : tie.Need-add-result
@@ -49,7 +50,7 @@ cast-result : tie.Need-cast-result
 cast-result c = inside c .casts
 
 returns-2 : tie.Need-returns-2
-unfolding kelvinOf
+unfolding kelvinGuarded kelvinOf
 returns-2 c = simp (outside (c .before), c .if1 .left) (inside c .val)
 
 pub kelvin-spec : {M : Type 1} → statement M
