@@ -1,4 +1,4 @@
--- T in kelvin: 0.01 °C plus 27,315; 0 for what lies outside -10,000..20,000, which no setting and no T.Mes does.
+-- T in kelvin: 0.01 °C plus 27,315. Outside -10,000..20,000 it is 0; no setting and no T.Mes lies there.
 -- Assumes nothing.
 use Prim.Native.Nat.{ℕ}
 use mathlib.Core.Bool.{_||_, cond}

@@ -1,6 +1,6 @@
--- What is proved of every run is so of the desk. A desk is handed out fresh, and lines are put to it in blocks, in whatever way they fall into these,
--- with starts, empty and unknown lines among them. `back` is then the device with its stores as the last block handed it back, and `last` the run
--- that is under way: it began with the last start, and its steps are the commands since.
+-- What is proved of every run holds of the desk. A desk is handed out fresh, and lines are put to it in blocks, however they fall into these, with starts, empty and
+-- unknown lines among them. `back` is the device with its stores after the last block. `last` is the run under way: it began with the last start, and its steps are
+-- the commands since.
 -- Assumes nothing.
 use Prim.Native.Nat.{ℕ, _%_}
 use mathlib.Core.Path.{_≡_, sym, subst}
@@ -36,7 +36,7 @@ use Rattle.served.specs.Served.{Run, endOf, lastRun, Block, linesOf, ser
 use Rattle.served.proofs.Served.{block-by-block}
 use Rattle.served.proofs.Begun.{always-begun, fresh-begun}
 
--- P of the world in which a run began, its steps and the world at its end: it holds of every run from a start, over stores of their exact lengths
+-- P speaks of the world in which a run began, its steps, and the world at its end. It holds of every run from a start over stores of their exact lengths
 abbrev pub OfEveryRun : (World → List Command → World → Type 0) → Type 0
 OfEveryRun P =
     (time supcode custcode : ℕ) (archive : List ArchiveLine) (log : List LogLine) (audit : List AuditLine) → Sized (started time supcode custcode archive log audit)
