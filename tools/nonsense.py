@@ -71,7 +71,7 @@ def in_order(settings):
 
 
 class Session:
-    """What is staged, what counts as read, and what of that was put in force through the other door since."""
+    """What is staged, what counts as read, and what was put in force through the other door since it was read."""
 
     def __init__(self, live=False):
         self.live, self.staged, self.read, self.overtaken = live, {}, set(), set()
@@ -109,7 +109,7 @@ class State:
         return s
 
     def with_cell(self, door, setting, staged=(), read=False, overtaken=False):
-        """The setting as the session at the door sees it, anew."""
+        """Sets what the session at the door has of the setting."""
         s = deepcopy(self)
         x = s.doors[door]
         x.staged.pop(setting, None)
@@ -218,7 +218,7 @@ LENT = {
 
 
 def reasons(command, s, args, lengths={}):
-    """All that apply. `lengths` tells the stores that have not their exact length."""
+    """All reasons that apply. `lengths` names the stores that have not their exact length."""
     session = lambda: s.doors.get(args[0], Session())
     own = {
         "open": lambda lock, code: {"lock": lock not in (1, 2, 3), "code": lock in (2, 3) and code != s.codes[lock]},
@@ -249,7 +249,7 @@ def rights(s, session):
 
 
 def fate(command, s, args):
-    """Where it is not refused: what comes back, against what was handed in."""
+    """If it is not refused: what comes back, compared with what went in."""
     x = s.doors.get(args[0]) if args else None
     if command in ("report", "log", "archive", "audit"):
         return "same"
@@ -279,7 +279,7 @@ def shown(v):
 
 
 def typed(command, args):
-    """The command as the bench is given it."""
+    """The command in the bench's form."""
     words = [command] + [("c " + struct.pack(">d", a).hex() if isinstance(a, float) else "w %d" % a) if command == "write" and k == 2 else str(a) for k, a in enumerate(args)]
     return " ".join(words + (["%d %d -" % (RAW, PASCALS)] if command == "cycle" else []))
 
@@ -450,7 +450,7 @@ def lengths():
 
 
 def starts():
-    """To the state that a refused start hands back."""
+    """Put to the state that a refused start gives."""
     print("started at 0 with codes 0")
     for time in (0, END_OF_TIME - 1, END_OF_TIME, MOST):
         print("  start %d 5 6: %s" % (time, "0 changed" if time < END_OF_TIME else "6 same"))
@@ -495,7 +495,7 @@ REASONS = {
     "commit": ["not-whole", "length", "door", "idle", "right", "stale", "pairs"],
 }
 
-# A code is that of lock 2 or 3. A door that is none has no session, and where there is no session nothing is staged or read.
+# A code belongs to lock 2 or 3. A door other than 1 and 2 has no session, and without a session nothing is staged or read.
 NEVER = {("open", "lock", "code"), ("begin", "door", "live")} | {("commit", a, b) for a in ("door", "idle") for b in ("right", "stale", "pairs")}
 
 

@@ -4,8 +4,8 @@
     tools/size.py                       counts the lines again; times and memory stay as they stand in the page
     tools/size.py --watch COMMAND ..    runs the command, as `.ci/run` or `rt prove`, and takes time and memory of each crate that it proves
 
-The time of a crate is what rt says of it, its memory the peak of the prover's process, looked up twice a second. Watch on a machine that does
-nothing else.
+The time of a crate is what rt prints for it; its memory is the peak of the prover's process, looked up twice a second. Watch on a machine that
+does nothing else.
 """
 import glob, os, re, subprocess, sys, threading, time
 
@@ -14,12 +14,12 @@ PAGE = os.path.join(ROOT, "docs", "SIZE.md")
 
 HEAD = """# How large it is, and what its check takes
 
-Written by `tools/size.py`; after a change of the sources, run it again. The crates stand in the order of crates.txt, each after those that it uses.
+Written by `tools/size.py`; run it again after a change of the sources. The crates stand in the order of crates.txt, each after those that it uses.
 
-A line counts if it is neither empty nor a comment alone. Code is `src`, definitions are `specs`, proof is `proofs`; of the proof, "walks" are the files that
-tools/walk.py writes (functions over lent stores). An edit is a deliberate mistake under `must-fail` that the prover must refuse. Seconds are those of the crate's
-proof in one run of the gate from nothing, up to six crates at a time. Memory is the peak of the prover's process. "-" is not measured. The code
-of `calendar` has the table of 1,201 day numbers, one a line.
+A line counts if it is neither empty nor only a comment. Code is `src`, definitions are `specs`, proof is `proofs`. "Walks" are that part of the proof which
+tools/walk.py writes (functions over lent stores). An edit is a deliberate mistake under `must-fail` that the prover must refuse. Seconds are the time of the crate's
+proof in one run of the gate from nothing, with up to six crates at a time. Memory is the peak of the prover's process. "-" means not measured. The code
+of `calendar` includes the table of 1,201 day numbers, one a line.
 
 """
 COLUMNS = ["Crate", "Code", "Definitions", "Proof", "of it walks", "Edits", "Seconds", "Memory, MB"]

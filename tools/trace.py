@@ -4,9 +4,9 @@
     tools/trace.py
 
 A citation is one or more names in backticks, separated by commas, and right after them a file or folder in brackets. A path that begins
-with the name of a crate stands below crates/. A name of a .antt, .rt or .rs file has to be declared there; a name before a folder is a
-file of that folder, whatever its suffix; in any other file the words have to stand, in a file `stdout` at the beginning of a line. In the
-tables every name in backticks has to belong to a citation, and every row has to have a place.
+with the name of a crate is below crates/. What a name must be depends on the file: in a .antt, .rt or .rs file it is declared there;
+before a folder it is a file of that folder, whatever its suffix; in a file `stdout` it begins a line; in any other file its words occur.
+In the tables every name in backticks belongs to a citation, and every row has at least one.
 
 A name of a file in a folder specs is a definition. It has to be reached: the contract of a public function names it, or the statement of a
 public theorem, or a definition that is itself reached. A name means the declaration of its own file, or else the one that a `use` of the

@@ -2,13 +2,13 @@
 """Writes the proofs of functions over lent books ("walks").
 
     tools/walk.py [FILE ..]            FILE is one of tools/walks/*.py; with none, all of them
-    tools/walk.py --check [FILE ..]    writes nothing, and says which of the files that are there are not what it would write; with no FILE
-                                       also which say that they are of this tool and are in no list. The status is 1 where there is any
+    tools/walk.py --check [FILE ..]    writes nothing; names each file that differs from what it would write and, with no FILE, each file
+                                       that claims to be written by this tool but is in no list. The status is 1 if there is any
 
-A function that takes a slice of structs is not covered by the borrow checker: its proof goes through its steps one by one, and says
-at each which piece of memory, borrow or token is used, by its place in a list. This tool counts those places. It reads the steps from
-the compiler (tools/mir.py) and what each call says of its answer from the contracts in crates/*/src, so an input file is short. What it
-writes is in the layout of `rt fmt`. In an input file:
+The borrow checker does not cover a function that takes a slice of structs. Its proof goes through the steps one by one, and says at each
+which piece of memory, borrow or token is used, by its place in a list. This tool counts those places. It reads the steps from the
+compiler (tools/mir.py) and what each call promises from the contracts in crates/*/src, so an input file is short. What it writes is in
+the layout of `rt fmt`. In an input file:
 
     types("device", structs=["State", "Plan"], enums=["readings::Pressure"])
         writes proofs/Types.antt of a crate above `books` (list it in proofs/Lib.antt as `pub mod Types`): one `Known` for each type,
@@ -18,15 +18,15 @@ writes is in the layout of `rt fmt`. In an input file:
         writes crates/device/proofs/cycle/Proof.antt. The function is a straight line of: lengths of lent slices, calls by value,
         calls that are lent slices or local arrays (as `&mut [S]` or `&[S]`), and copies of locals. Each callee's contract says
         `r ≡ ..` and, of each `&mut` slice, `now (x .exit) ≡ ..`, joined by `×`. The function's own contract has to follow from
-        those by unfolding the definitions named in `unfold` (separated by spaces); where it does not, `said` gives the proof of it.
+        those by unfolding the definitions named in `unfold` (separated by spaces); if it does not, `said` gives its proof.
         `requires={"callee": "proof"}` proves what a callee asks. A local array may be lent in part, `&mut a[..m]`, where m is a local whose
         value is `min k n`, n the array's length (a function cuts it); what is not lent is then `past m a`. With `apart=True` what is lent is
-        given up after each call and the steps up to the next are a lemma of their own: for functions that lend more than once.
+        given up after each call, and the steps up to the next call are a lemma of their own. Use it if a function lends more than once.
 
     forks("device::answer", said=["(by-cycle s log-now yes-1)", "(by-rest s log-now no-1)"])
         the same for a function whose steps go on with `if flag { ..; return x; }`, once or more often, each arm a straight line as above.
         `said` has a proof of the contract for each return, in the order of the text: the test of branch k is there as `yes-k : T flag`
-        in its arm and as `no-k : T (not flag)` past it. What is lent to no call on a way goes back as it came.
+        in its arm and as `no-k : T (not flag)` past it. A slice that is lent to no call on a way goes back as it came.
 
     ring("books::write_log")       the loop that stores lines one by one into a ring
     fetch("books::fetch_log")      the branch that reads one line

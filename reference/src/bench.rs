@@ -1,4 +1,4 @@
-//! Runs the bench as a child process, and holds its answers against those of
+//! Runs the bench as a child process, and compares its answers with those of
 //! the reference.
 
 use std::io::{self, Read, Write};
@@ -38,8 +38,8 @@ pub struct Run {
 /// The first place where bench and reference differ.
 #[derive(Clone, Debug, PartialEq, Eq)]
 pub struct Difference {
-    /// The line of the script; none where all answers are right and only the
-    /// end is wrong.
+    /// The line of the script; none if all answers are right and only the end
+    /// is wrong.
     pub line: Option<usize>,
     pub reference: String,
     pub bench: String,

@@ -469,7 +469,7 @@ mod tests {
     use crate::generate::{long_script, random_script, Rng};
 
     /// The generator must reach everything within the steps of one run of the
-    /// continuous build, whatever the seed.
+    /// gate, whatever the seed.
     #[test]
     fn the_generator_reaches_everything() {
         for seed in [1, 2, 3] {

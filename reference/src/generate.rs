@@ -116,8 +116,8 @@ pub fn giant_script(rng: &mut Rng) -> Script {
     writer.finish()
 }
 
-/// One long script that no random one reaches the end of: both counters of
-/// both units roll over, and the line numbers of both books pass 65,535.
+/// One long script for what no random one reaches: both counters of both
+/// units roll over, and the line numbers of both books pass 65,535.
 pub fn long_script(rng: &mut Rng) -> Script {
     let mut writer = Writer::new(rng);
     writer.no_noise = true;

@@ -307,8 +307,8 @@ fn push_decimal(out: &mut Vec<u8>, mut number: u64) {
     out.extend_from_slice(&digits[first..]);
 }
 
-/// Answers one line, given without its line feed. None where the line
-/// answers nothing.
+/// Answers one line, given without its line feed. None if the line has no
+/// answer.
 pub fn answer_line(device: &mut Device, line: &[u8], out: &mut Vec<u8>) -> Option<()> {
     match read_line(line) {
         Line::Nothing => None,
@@ -327,7 +327,7 @@ pub fn answer_line(device: &mut Device, line: &[u8], out: &mut Vec<u8>) -> Optio
 /// with the stream, and not with its lines either.
 pub struct Answerer {
     device: Device,
-    /// The line so far. Of a line too long, as much as shows that it is.
+    /// The line so far. Of a line that is too long, enough to show that it is.
     line: Vec<u8>,
 }
 

@@ -1,4 +1,4 @@
-//! Cutting a script that differs down to the shortest that still does.
+//! Cuts a script that shows a difference down to the shortest that still does.
 
 use std::collections::HashMap;
 use std::time::{Duration, Instant};
@@ -59,8 +59,8 @@ impl Shrinker<'_> {
     }
 
     /// Leaves out all lines of a kind at once. A long script is mostly the
-    /// same few lines over and over, and what does not matter stands between
-    /// what does.
+    /// same few lines over and over, and lines that do not matter stand between
+    /// those that do.
     fn remove_kinds(&mut self) {
         const MOST: usize = 40;
         for kind in [kind_by_command, kind_without_time] {

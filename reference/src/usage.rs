@@ -2,8 +2,8 @@
 
 use std::process::ExitCode;
 
-/// The options that were read; or, where help was asked for or a word is
-/// wrong, the status to end with, after its usage was printed.
+/// The options that were read. If help was asked for or a word is wrong, it
+/// prints the usage and gives the status to end with.
 pub fn options_or_end<T>(
     program: &str,
     usage: &str,

@@ -14,7 +14,7 @@ def walk_path(name):
 
 
 def claim(path):
-    """This run is to write the file, whether or not it comes to that."""
+    """Notes that this run is meant to write the file, even if it fails to."""
     if path in claimed:
         raise Fault("%s is listed twice" % path)
     claimed.add(path)
@@ -26,7 +26,7 @@ def add(path, text):
 
 
 def read(path):
-    """A file as this run has it, else as it is there; nothing where it is not."""
+    """A file as this run has it, else as it is on disk; nothing if there is none."""
     if path in texts:
         return texts[path]
     whole = os.path.join(ROOT, path)
@@ -41,7 +41,7 @@ def store(root, path, text):
 
 
 def laid_out():
-    """The files of this run in the layout of `rt fmt`, which works on a repository: they stand in one of their own meanwhile. Also what it refused."""
+    """The files of this run in the layout of `rt fmt`, and what it refused. `rt fmt` works on a repository, so the files are put into one of their own for it."""
     if not texts:
         return {}, ""
     with tempfile.TemporaryDirectory(prefix="walk_") as room:
@@ -66,7 +66,7 @@ def write():
 
 
 def first_difference(there, ours):
-    """The first line that differs, as it is there and as the tool writes it, from a little before the place."""
+    """The first line that differs, as it is on disk and as the tool writes it, from a little before that place."""
     for n, (a, b) in enumerate(zip(there.split("\n") + [None], ours.split("\n") + [None]), 1):
         if a != b:
             place = next((i for i, (x, y) in enumerate(zip(a or "", b or "")) if x != y), min(len(a or ""), len(b or "")))
@@ -75,7 +75,7 @@ def first_difference(there, ours):
 
 
 def compare():
-    """What is there and is not what the tool writes."""
+    """The files on disk that differ from what the tool writes."""
     found, refused = laid_out()
     wrong = ["rt fmt: " + refused] if refused else []
     for path, text in found.items():
@@ -90,7 +90,7 @@ def compare():
 
 
 def strays():
-    """The files that say they are of this tool, and that this run was not to write."""
+    """The files that claim to be written by this tool but were not meant to be written by this run."""
     found = []
     for whole in sorted(glob.glob(ROOT + "/crates/*/proofs/**/*.antt", recursive=True)):
         path = os.path.relpath(whole, ROOT)

@@ -1,4 +1,4 @@
-"""The form `forks`: a chain of branches, the arm of each of which returns."""
+"""The form `forks`: a chain of branches; the arm of each returns."""
 import re
 
 from sources import Fault, arg
@@ -15,7 +15,7 @@ class Forks:
         self.parts, self.ends = Parts(self.w), []
 
     def leaves(self, returns):
-        """The end of an arm, or of the whole: the law of this return, under the branches taken and passed on the way."""
+        """The end of an arm, or of the function: the law of this return, given the branches taken and passed on the way."""
         w, n = self.w, len(self.ends) + 1
         if n > len(self.said):
             raise Fault("it has more returns than the %d proofs in `said`" % len(self.said))

@@ -90,7 +90,7 @@ def handed(w):
 
 
 def known(w):
-    """The callees' contracts, as what the tables are known to have."""
+    """The callees' contracts, as facts about the tables."""
     return " ".join("(known-%s : Triple 𝓤 (𝓣 .C #%s) (%s))" % (kebab(c), w.symbol(c), w.contract(c)) for c in w.callees)
 
 

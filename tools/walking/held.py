@@ -1,4 +1,4 @@
-"""The list of what a walk holds at a step: memory, borrows and tokens, each spoken of by its place."""
+"""The list of what a walk holds at a step: memory, borrows and tokens, each named by its place in the list."""
 from walking.texts import listed
 
 

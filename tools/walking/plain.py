@@ -10,7 +10,7 @@ TYPES = "crates/%s/proofs/Types.antt"
 
 
 def home(path, own):
-    """The crate whose Types has the `a-Name` of this type: the own one, else `books`, else one that the own crate uses."""
+    """The crate whose Types has the `a-Name` of this type: this crate, else `books`, else one that this crate uses."""
     name, inner, others = last(path), ".".join(path.split("::")[1:]), []
     for c in sorted(reached(own), key=lambda c: (c != own, c != "books", c)):
         text = files.read(TYPES % c)

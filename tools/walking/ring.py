@@ -10,7 +10,7 @@ from walking.walk import Walk
 
 
 def found(pattern, text, what):
-    """The words of a contract that the loop's law is made of."""
+    """The parts of a contract from which the loop's law is made."""
     match = re.search(pattern, text or "")
     if not match:
         raise Fault("the contract of `%s` is not of the form that `ring` knows: %s" % (what, text))

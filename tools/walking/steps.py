@@ -59,7 +59,7 @@ def lends(w, local, pair):
 
 
 class Parts:
-    """The lemmas that a walk is cut into, each over what is held where it begins, written out."""
+    """The lemmas that a walk is cut into. Each begins with what is held there, written out."""
 
     def __init__(self, w):
         self.w, self.done = w, []
@@ -115,7 +115,7 @@ module _ ({ls} : ℕ) where
 
 
 def give_back(w, returns, exits):
-    """The end: each `&mut` slice that was lent to no call goes as it stands, the locals are given up, and `exits` says that this is the contract."""
+    """The end: each `&mut` slice that was lent to no call goes back unchanged, the locals are given up, and `exits` says that this meets the contract."""
     said_up = ""
     for x, s in w.slices.items():
         if s.mut and x not in w.ends:

@@ -97,7 +97,7 @@ class Walk:
         return "(%s .%s)" % (arg(value), names[k]), type, "(SL.owed %s′.the-type %s″.the-laws %s _ %s %s)" % (last(owner.path), last(owner.path), arg(value), fine, at(k))
 
     def snapshot(self):
-        """What is held and known here, for a second way on from here."""
+        """A copy of what is held and known here, for a second way on."""
         return list(self.held.labels), set(self.filled), dict(self.values), dict(self.ends), list(self.told), dict(self.refs), dict(self.lent)
 
     def restore(self, here):
@@ -140,7 +140,7 @@ class Walk:
         self.out(said)
 
     def context(self):
-        """What is held, item by item. Written out, it is compared once and not at every later step."""
+        """What is held, item by item, written out, so that it is compared once and not at every later step."""
         items = []
         for label in self.held.labels:
             if label in ("tokens", "owns"):
@@ -200,7 +200,7 @@ class Walk:
         self.values[local] = ("tt", self.type("unit"), "refl")
 
     def cite(self, callee):
-        """The name of this call; a callee is known by its bare name, and called more than once by its number."""
+        """The name of this call: the callee's bare name, with a number if it is called more than once."""
         if callee not in self.callees:
             for other in self.callees:
                 if kebab(other) == kebab(callee):

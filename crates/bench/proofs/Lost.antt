@@ -1,5 +1,5 @@
--- The bench reads on only where no whole line is left, and keeps the unfinished one cut. Nothing is lost by it: what is served and what is said once
--- more has come is what it would be if all of that line had been kept.
+-- The bench reads on only when no whole line is left, and cuts the unfinished one. Nothing is lost: once more has come, what is served and said is what it would be if
+-- all of that line had been kept.
 -- Assumes nothing.
 use Prim.Native.Nat.{ℕ, _≤_}
 use mathlib.Core.Path.{_≡_, ap, _∙_}

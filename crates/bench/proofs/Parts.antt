@@ -1,4 +1,4 @@
--- The parts of the input that the bench goes by.
+-- The parts of the input that the bench works on.
 -- Assumes nothing.
 use mathlib.Core.Path.{_≡_, refl, sym, ap, _∙_}
 use mathlib.Core.Bool.{Bool, true, false}

@@ -1,5 +1,5 @@
--- What the bench does between a read and a write: nothing but answer the lines that are there, and keep an unfinished one. Which bytes a read gives,
--- and what becomes of those that are written, no contract can say.
+-- What the bench does between a read and a write: it answers the lines that are there and keeps an unfinished one, and nothing else. No contract can say which bytes
+-- a read gives, or what becomes of those that are written.
 -- Assumes nothing.
 use Prim.Native.Nat.{ℕ, _+_, _-_, _≤_, _<_}
 use mathlib.Core.Path.{_≡_}
@@ -14,18 +14,17 @@ use Rattle.bench.specs.declared.Window.{Window}
 use Rattle.bench.specs.declared.More.{More}
 use Rattle.bench.specs.declared.Reached.{Reached}
 
--- a read behind the bytes that are held leaves these as they are, and gives no more than there is room for
+-- a read leaves the bytes that are held as they are, and gives no more than there is room for behind them
 pub record ReadBehind (old new : List ℕ) (held : ℕ) (r : More) : Type 0 where
   pub front : take held new ≡ take held old
   pub most : held + r .n ≤ length new
 
--- the bytes from one place up to another, still to be answered, are within the input
+-- the bytes still to be answered lie within the input
 pub record Within (input : List ℕ) (w : Window) : Type 0 where
   pub least : w .from ≤ w .have
   pub most : w .have ≤ length input
 
--- the unfinished line stands at the front, cut to as much as decides its answer, and behind it what a read gave; or, where the input has ended, a
--- line feed
+-- at the front stands the unfinished line, cut to as much as decides its answer; behind it what a read gave or, if the input has ended, a line feed
 pub record Refilled (old new : List ℕ) (from to : ℕ) (w : Window) : Type 0 where
   pub front : take (length (keptPart old from to)) new ≡ keptPart old from to
   pub start : w .from ≡ 0
@@ -37,7 +36,7 @@ pub record Refilled (old new : List ℕ) (from to : ℕ) (w : Window) : Type 0 w
 abbrev pub part : List ℕ → ℕ → ℕ → List ℕ
 part input from to = take (to - from) (drop from input)
 
--- where lines were answered, the bytes behind them are next, and no byte of the input has changed; where there was none, more was read
+-- if lines were answered, the bytes behind them come next and the input is as it was; if there was none, more was read
 unfoldable pub Next : Bool → List ℕ → List ℕ → ℕ → ℕ → ℕ → Bool → Window → Type 0
 Next true old new from to at more w = (new ≡ old) × (w .from ≡ from + at) × (w .have ≡ to) × (w .more ≡ more)
 Next false old new from to at more w = (more ≡ true) × Refilled old new from to w

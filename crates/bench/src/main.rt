@@ -1,6 +1,5 @@
-// The bench: commands from standard input, one a line, and one line of output for each, in order. What has been answered is written before
-// more is read. An unfinished line is kept at the front of the input, cut to as much as decides its answer, so memory stays as it is. A read or a
-// write that fails is said on standard error, and ends the bench.
+// The bench: reads commands from standard input, one a line, and writes one line for each, in order. Answers are written before more is read. Of an unfinished line
+// only so much is kept as decides its answer, so memory does not grow. A read or a write that fails is reported on standard error, and ends the bench.
 ghost use Prim.Native.Nat.{_≤_, _<_};
 ghost use lib.ListN.{length};
 ghost use Rattle.text.specs.Words.{deciding};
@@ -10,7 +9,7 @@ use libc::STDERR_FILENO;
 use libc::STDIN_FILENO;
 use libc::STDOUT_FILENO;
 
-// What is left of the input: the bytes from one place up to another; whether a read may give more; and whether the bench goes on.
+// What is left of the input: the bytes from `from` up to `have`; whether a read may give more; whether the bench goes on.
 struct Window {
     from: usize,
     have: usize,
@@ -18,7 +17,7 @@ struct Window {
     on: bool,
 }
 
-// How many bytes a read gave: none at the end of the input, or where it failed.
+// How many bytes a read gave: none at the end of the input, or if it failed.
 struct More {
     n: usize,
     failed: bool,
@@ -29,7 +28,7 @@ struct Reached {
     left: Window,
 }
 
-// One read behind the bytes that are held.
+// Reads once, behind the bytes that are held.
 fn read_more(input: &mut [u8], held: usize) -> More
     requires { ⌜ held ≤ length (now input) ⌝ }
     ensures { λ r. ⌜ ReadBehind (now (input .entry)) (now (input .exit)) held r ⌝ }
@@ -44,8 +43,7 @@ fn read_more(input: &mut [u8], held: usize) -> More
     }
 }
 
-// Keeps the unfinished line and reads more. A last line without its line feed is given one; where the read failed it is no line, and stays
-// unanswered.
+// Keeps the unfinished line and reads more. At the end of the input a last line without a line feed is given one. If the read failed, that line stays unanswered.
 fn refill(input: &mut [u8], from: usize, have: usize) -> Window
     requires { ⌜ deciding < length (now input) ⌝ }
     ensures { λ r. ⌜ Refilled (now (input .entry)) (now (input .exit)) from have r ⌝ }
@@ -86,7 +84,7 @@ fn refill(input: &mut [u8], from: usize, have: usize) -> Window
     }
 }
 
-// The lines that are there are answered, and the answers written; where there is none, more is read, unless the input has ended.
+// Answers the lines that are there and writes the answers. If there is none, reads more, unless the input has ended.
 fn step(d: Desk, input: &mut [u8], out: &mut [u8], from: usize, have: usize, more: bool) -> Reached
     requires { ⌜ (from ≤ have) × (have ≤ length (now input)) × (deciding < length (now input)) ⌝ }
     ensures { λ r. ⌜ Stepped d (now (input .entry)) (now (input .exit)) (now (out .entry)) (now (out .exit)) from have more r ⌝ }
@@ -133,14 +131,14 @@ fn step(d: Desk, input: &mut [u8], out: &mut [u8], from: usize, have: usize, mor
 fn main() {
     let mut input = io::large_buffer();
     let mut out = io::large_buffer();
-    // As start time 0 and codes 0 give.
+    // The device that start time 0 and codes 0 give.
     let begun = desk::fresh(0, 0, 0);
     let mut desk = begun.desk;
     let mut from: usize = 0;
     let mut have: usize = 0;
     let mut more = true;
     let mut on = true;
-    // A proved loop has to end, and nothing says that the input does: no run uses up this number.
+    // A loop has to end to be accepted. The input could be endless, so we stop after 2^64 - 1 rounds, which no run reaches.
     let mut turns = u64::MAX;
     while on {
         if turns == 0 {

@@ -1,4 +1,4 @@
--- The types of plain data that the walks of this crate and those above hand over.
+-- The types of plain data that walks hand over, in this crate and those above.
 -- Assumes nothing.
 use mir.Syntax.{w8, w16, w32, w64}
 use denote.Builtin.{u8, u16, u32, u64, usize, i64, f64, bool, unit}

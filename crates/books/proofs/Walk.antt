@@ -1,5 +1,5 @@
--- What the walks of functions over lent books share: a walk goes through the function's steps one by one, and holds at each what memory,
--- borrows and tokens there are. It says nothing of the books.
+-- What all walks share. A walk is a proof that goes through a function's steps one by one, and states at each which memory, borrows and tokens it holds. Nothing
+-- here is about the books.
 --     envAt, tyAt, rest-of    the locals of a function at their places; the type of one; what follows the first step
 --     arm-of      what a branch does where its test holds
 --     Known R     of a type of plain data R: the machine value of each value, and the laws of it

@@ -1,4 +1,4 @@
--- The sum that gives a first day without the table: it rises by the days of each month, which is one test, computed over all months.
+-- The sum that gives a month's first day without the table. It grows by the days of each month: one test, computed over all months.
 -- Assumes nothing.
 use mathlib.Core.Path.{_≡_, refl}
 use mathlib.Core.Bool.{Bool, true}
@@ -21,7 +21,7 @@ all-steps : allBelow step 1200 ≡ true
 unfolding allBelow leapYear daysIn daysOf
 all-steps = refl
 
--- 1 January 2000 is the day 306
+-- 1 January 2000 is day 306 of that count
 pub day-sum : (m : ℕ) → m ≤ 1200 → daySum m ≡ firstDay m + 306
 unfolding firstDay
 day-sum zero l = refl

@@ -40,7 +40,7 @@ fn plain(fault: u64, when: &[u8], remedy: &[u8]) {
     remedied(remedy);
 }
 
-// A row that names a limit of the device between its words.
+// A row with a limit of the device between its words.
 fn limit(fault: u64, before: &[u8], most: u64, after: &[u8], remedy: &[u8]) {
     given(fault);
     text(before);
@@ -49,7 +49,7 @@ fn limit(fault: u64, before: &[u8], most: u64, after: &[u8], remedy: &[u8]) {
     remedied(remedy);
 }
 
-// A row that names the sizes of the stores in brackets, which its first words open.
+// A row with the sizes of the stores in brackets. Its first words open the bracket.
 fn sized(fault: u64, before: &[u8], after: &[u8], remedy: &[u8]) {
     given(fault);
     text(before);
@@ -143,7 +143,7 @@ fn of_the_settings() {
     );
 }
 
-// A line asked for; and the last row of the card, which is there though no whole state comes to it.
+// A line asked for; and the last row, which is on the card though no whole state can come to it.
 fn the_last_two() {
     sized(
         NOT_HELD,

@@ -1,5 +1,5 @@
-// Prints docs/FAULT-CARD.md: the numbers that the device answers, and its settings. Limits, sizes, ranges, factory values and locks are the
-// device's own, so that a change of the device changes what is printed, and the gate then refuses the committed page.
+// Prints docs/FAULT-CARD.md: the numbers that the device answers, and its settings. Limits, sizes, ranges, factory values and locks are the device's own. So a change
+// of the device changes what is printed, and the gate refuses the committed page.
 mod faults;
 mod page;
 mod table;

@@ -1,4 +1,5 @@
-// What the page is made of beside words: the cells of a row, and numbers as on a printed card.
+// The cells of a row, and numbers as they look on a printed card.
+use libc::STDOUT_FILENO;
 use print::magnitude;
 use print::text;
 
@@ -14,19 +15,19 @@ pub fn row_ends() {
     text(b" |\n");
 }
 
-// A group after the first keeps its zeros.
+// A group of three digits after the first group keeps its leading zeros.
 fn later_group(n: u64) {
     text(b",");
-    io::print_decimal(1, n / 100);
-    io::print_decimal(1, n / 10 % 10);
-    io::print_decimal(1, n % 10);
+    io::print_decimal(STDOUT_FILENO, n / 100);
+    io::print_decimal(STDOUT_FILENO, n / 10 % 10);
+    io::print_decimal(STDOUT_FILENO, n % 10);
 }
 
-// The last group of three digits of what is left of a number without its lower groups; nothing where nothing is left.
+// The last three digits of what is left of a number once its lower groups are taken off; nothing if nothing is left.
 fn group(rest: u64) {
     if rest < 1_000 {
         if 0 < rest {
-            io::print_decimal(1, rest);
+            io::print_decimal(STDOUT_FILENO, rest);
         }
     } else {
         later_group(rest % 1_000);

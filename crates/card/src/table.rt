@@ -1,4 +1,4 @@
-// The settings, row by row as the device has them. Only names and units are words of this page.
+// The settings, row by row as the device has them. Only the names and units are this page's own.
 use crate::page::next_cell;
 use crate::page::number;
 use crate::page::row_begins;
@@ -70,8 +70,7 @@ fn gas_and_customer(k: usize) {
     }
 }
 
-// By the place in the table, in groups: the proof of one long match takes many times as long. A row that the device has and this page does
-// not know stands without a name.
+// By the place in the table. In groups, because the proof of one long match takes many times as long. A row that this page does not know is printed without a name.
 fn name_and_unit(k: usize) {
     match k {
         0..=5 => pulse_base_and_modes(k),
@@ -92,7 +91,7 @@ fn range(r: Row) {
     }
 }
 
-// A decimal stands beside the bits only where the float equals it, so that a changed row cannot keep an old one.
+// The decimal is printed beside the bits only if the float equals it, so that a changed row cannot keep an old decimal.
 fn decimal(x: f64) {
     if x == -40.0 {
         text(b" = -40");

@@ -1,4 +1,4 @@
--- The tests on answers are tests of equality: an answer that passes is the one the row gives.
+-- An answer that passes a row's test equals the answer that the row gives.
 -- Assumes nothing.
 use mathlib.Core.Path.{_≡_, refl, sym, ap}
 use mathlib.Core.Bool.{Bool, true, false, _&&_}

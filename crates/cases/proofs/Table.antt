@@ -1,5 +1,4 @@
--- Every row of the table of cases by hand holds: the checker computes each answer from the definitions that the contracts cite, and so
--- opens them all.
+-- Every row of the table of cases by hand holds. The checker computes each answer from the definitions that the contracts cite, so it unfolds them all.
 -- Assumes nothing.
 use mathlib.Core.Path.{_≡_, refl}
 use mathlib.Core.Bool.{true}

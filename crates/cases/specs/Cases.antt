@@ -1,5 +1,5 @@
--- "Twelve cases by hand" of document 01, as the rows of one table. A row has the number of its case (2 is H2) and one thing that the case
--- asks, with the answer that the paper gives. A new kind of row is a constructor of `Case` and a clause of `holds`.
+-- "Twelve cases by hand" of document 01, as the rows of one table. A row has the number of its case (2 is H2) and one question of the
+-- case, with the answer that the paper gives. A new kind of row is a constructor of `Case` and a clause of `holds`.
 -- Assumes nothing.
 use mathlib.Core.Bool.{Bool, true, false, not, _&&_}
 use mathlib.Core.List.{List, [], _∷_, map}

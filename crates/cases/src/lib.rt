@@ -1,1 +1,1 @@
-// The cases by hand stand in specs/, and are proved in proofs/: this crate has no code of its own.
+// The cases by hand stand in specs/ and are proved in proofs/. No code.

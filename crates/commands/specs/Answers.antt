@@ -21,7 +21,7 @@ plain n = record { number = n; given = given.Nothing }
 abbrev pub giving : ℕ → Given → Reply
 giving n v = record { number = n; given = cond (eqb n 0) v given.Nothing }
 
--- where there is no value: a refusal leaves the state as it was
+-- an answer that gives no value; a refusal leaves the state as it was
 abbrev pub answered : ℕ → State → State → Answer
 answered number before after = record { reply = plain number; state = cond (eqb number 0) after before }
 
@@ -32,7 +32,7 @@ pub record World : Type 0 where
   pub log : List LogLine
   pub audit : List AuditLine
 
--- an answer, and the stores after it. A store that the command is not lent has no lines here
+-- an answer, and the stores after it; a store that the command is not lent is an empty list here
 pub record Outcome : Type 0 where
   pub answer : Answer
   pub archive : List ArchiveLine

@@ -1,5 +1,5 @@
-// The commands of the device, in groups, and what is answered to them. These very types are what the text is read into, what the functions
-// over the stores go by, and what a step of a run is.
+// The commands of the device, in groups, and the answers to them. The same types serve throughout: a line of text is read into a command, the device is given it,
+// and it is a step of a run.
 ghost use mathlib.Core.Path.{_≡_};
 ghost use Rattle.commands.specs.Answers.{plain, giving, answered};
 
@@ -18,7 +18,7 @@ pub enum LockTurn {
     Shut(u64),
 }
 
-// What changes nothing, whatever it answers.
+// A question changes nothing, whatever it answers.
 pub enum Question {
     Report,
     Archive(u64),
@@ -26,7 +26,7 @@ pub enum Question {
     Audit(u64),
 }
 
-// What touches the session at its door and nothing else.
+// What may be asked of the session at a door. It changes nothing but that session.
 pub enum Act {
     Begin,
     Read(u64),
@@ -43,7 +43,7 @@ pub enum Command {
     Commit(u64),
 }
 
-// What is given beside the number: nothing where a command is refused, or has nothing to give.
+// What is given beside the number: nothing if the command was refused or has nothing to give.
 pub enum Given {
     Nothing,
     Value(settings::Value),
@@ -53,7 +53,7 @@ pub enum Given {
     Audit(books::AuditLine),
 }
 
-// The number on the fault card, 0 where done, and what is given.
+// The number on the fault card, which is 0 for done, and what is given.
 pub struct Reply {
     pub number: u64,
     pub given: Given,
@@ -65,15 +65,19 @@ pub struct Answer {
     pub state: state::State,
 }
 
-// What a line of input asks for: nothing, or what is no command; a device started anew in the place of this one; or a command.
+// What a line of input asks for: nothing (it is empty or a comment), something unknown, a new device in the place of this one, or a command.
 pub enum Entry {
     Nothing,
     Unknown,
-    Start(u64, u32, u32),
+    Start {
+        time: u64,
+        supcode: u32,
+        custcode: u32,
+    },
     Put(Command),
 }
 
-// What is said to it.
+// What is said to a line.
 pub enum Echo {
     Nothing,
     Unknown,
@@ -95,7 +99,7 @@ pub fn plain_reply(number: u64) -> Reply
 pub fn giving_reply(number: u64, given: Given) -> Reply
     ensures { λ r. ⌜ r ≡ giving number given ⌝ }
 {
-    let done = number == 0;
+    let done = number == state::faults::DONE;
     if done {
         Reply {
             number: number,
@@ -111,7 +115,7 @@ pub fn settled(number: u64, before: state::State, after: state::State) -> Answer
     ensures { λ r. ⌜ r ≡ answered number before after ⌝ }
 {
     let reply = plain_reply(number);
-    let done = number == 0;
+    let done = number == state::faults::DONE;
     if done {
         Answer {
             reply: reply,

@@ -20,13 +20,13 @@ use Rattle.desk.specs.declared.Output.{Output}
 use Rattle.desk.specs.Desk.{block, worldIn, deskOf, entered, entryAt, worldAfter, echoes, served}
 use Rattle.desk.specs.Plan.{commandIn, answeredIn, echoBy, outputBy, soundBy, seenOn, turnOn, outputOn, deskAfter, soundAfter, after, outputsUpTo, puttingTogether}
 
--- nothing is put where the list has no such place
+-- a list that has no such place stays as it is
 pub set-past : {A : Type 0} (l : List A) (i : ℕ) (x : A) → length l ≤ i → set l i x ≡ l
 set-past [] i x over = refl
 set-past (y ∷ l) zero x over = absurd (not-suc-le-zero over)
 set-past (y ∷ l) (suc i) x over = ap (λ (t : List _). y ∷ t) (set-past l i x (le-of-suc-le-suc over))
 
--- one line, where it is said rightly whether the state is whole
+-- one line, if it is said rightly whether the state is whole
 desk-is : (d : Desk) (e : Entry) → deskAfter (wholeB (d .state)) d e ≡ deskOf ((entered e (worldIn d)) .0)
 unfolding entered deskAfter commandIn answeredIn turnOn seenOn seenOf turnOf turnBy answerIn
 desk-is d entry.Nothing = refl
@@ -68,7 +68,7 @@ up-to-is d inputs zero = refl
 up-to-is d inputs (suc k) =
     rw (up-to-is d inputs k, sound-after d inputs k, after-is d inputs k, output-is (deskOf (worldAfter (worldIn d) inputs k)) (entryAt inputs k))
 
--- after all turns of a block, the parts are what was to be served
+-- after all turns of a block, desk and outputs are what `served` asks for
 pub served-after : (d : Desk) (inputs : List Input) (count k : ℕ) → k ≡ min count block
     → puttingTogether (after d inputs k .state) (after d inputs k .archive) (after d inputs k .log) (after d inputs k .audit) (outputsUpTo d inputs k) ≡ served d inputs count
 unfolding puttingTogether served

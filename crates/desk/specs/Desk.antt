@@ -1,4 +1,4 @@
--- Lines put to a desk, which is the device's state with its three stores: a command comes to its step, with the desk's stores lent.
+-- Lines put to a desk, which is the device's state with its three stores. A command does its step, with the desk's stores lent.
 -- Assumes nothing.
 use Prim.Native.Nat.{ℕ, zero, suc, min}
 use mathlib.Core.List.{List}
@@ -42,7 +42,7 @@ worldIn d = record { state = d .state; archive = d .archive; log = d .log; audit
 abbrev pub deskOf : World → Desk
 deskOf w = record { state = w .state; archive = w .archive; log = w .log; audit = w .audit }
 
--- A start takes the place of the state, also where it is refused: it then hands back the state of start time 0 and codes 0.
+-- A start replaces the state. A refused one does too: by the state of start time 0 and codes 0.
 unfoldable pub entered : Entry → World → World × Echo
 entered entry.Nothing w = (w, echo.Nothing)
 entered entry.Unknown w = (w, echo.Unknown)
@@ -61,12 +61,12 @@ noOutput = record { echo = echo.Nothing }
 abbrev pub entryAt : List Input → ℕ → Entry
 entryAt inputs k = getD inputs k noInput .entry
 
--- the world after the first k
+-- the world after the first k lines
 unfoldable pub worldAfter : World → List Input → ℕ → World
 worldAfter w inputs zero = w
 worldAfter w inputs (suc k) = (entered (entryAt inputs k) (worldAfter w inputs k)) .0
 
--- what was put out to the first k, each at its place
+-- what is said to the first k lines, each at its place
 unfoldable pub echoes : World → List Input → ℕ → List Output
 echoes w inputs zero = replicate block noOutput
 echoes w inputs (suc k) = set (echoes w inputs k) k (record { echo = (entered (entryAt inputs k) (worldAfter w inputs k)) .1 })

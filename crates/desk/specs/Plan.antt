@@ -1,4 +1,4 @@
--- How the code goes through the lines of a block. The law that this is what was to be served stands in the proofs.
+-- How the code goes through the lines of a block. That this is what Desk.antt asks for is proved in proofs/Laws.antt.
 -- Assumes nothing.
 use Prim.Native.Nat.{ℕ, zero, suc}
 use mathlib.Core.Bool.{Bool, true}
@@ -27,14 +27,14 @@ use Rattle.desk.specs.declared.Output.{Output}
 use Rattle.desk.specs.declared.Served.{Served}
 use Rattle.desk.specs.Desk.{block, noOutput, entryAt}
 
--- what is no command changes nothing, as a question does
+-- for an entry that is no command, a question: it changes nothing
 unfoldable pub commandIn : Entry → Command
 commandIn entry.Nothing = Ask Report
 commandIn entry.Unknown = Ask Report
 commandIn (entry.Start time supcode custcode) = Ask Report
 commandIn (entry.Put c) = c
 
--- a start takes the place of the device that is there
+-- a start replaces the device
 unfoldable pub answeredIn : Entry → Answer → Answer
 answeredIn entry.Nothing a = a
 answeredIn entry.Unknown a = a
@@ -50,7 +50,7 @@ echoBy (entry.Put c) r = echo.Said r
 unfoldable pub outputBy : Entry → Answer → Output
 outputBy e a = record { echo = echoBy e (a .reply) }
 
--- whether the state is whole afterwards, by whether it was before
+-- whether the state is whole afterwards, given whether it was before
 unfoldable pub soundBy : Entry → Bool → Bool
 soundBy entry.Nothing sound = sound
 soundBy entry.Unknown sound = sound

@@ -1,5 +1,5 @@
-// A desk: the device and its three stores in one plain value. Commands are put to it by the block: the stores are lent to each command where
-// they stand, so that nothing is copied from one command to the next, and a caller of this layer lends nothing.
+// A desk: the device and its three stores in one plain value. Lines are put to it a block at a time. The stores are lent in place to each command, so nothing is
+// copied between commands. A caller of this crate lends nothing.
 use books::ArchiveLine;
 use books::AuditLine;
 use books::LogLine;
@@ -34,13 +34,13 @@ pub struct Desk {
     pub audit: [AuditLine; AUDIT],
 }
 
-// A start's answer. A refused one has the desk that start time 0 and codes 0 would give.
+// The answer to a start. If it was refused, the desk is the one that start time 0 and codes 0 give.
 pub struct Started {
     pub number: u64,
     pub desk: Desk,
 }
 
-// A command to come, and what was answered to one, as elements of arrays.
+// A line of a block, and what is said to it, as elements of arrays.
 
 pub struct Input {
     pub entry: Entry,
@@ -50,7 +50,7 @@ pub struct Output {
     pub echo: Echo,
 }
 
-// The desk after a block, and what was answered to each of its commands.
+// The desk after a block, and what is said to each of its lines.
 pub struct Served {
     pub desk: Desk,
     pub outputs: [Output; BLOCK],
@@ -150,14 +150,14 @@ fn entry_in(x: Input) -> Entry
     x.entry
 }
 
-// What is no command changes nothing, as a question does.
+// For an entry that is no command, a question: it changes nothing.
 fn command_in(e: Entry) -> Command
     ensures { λ r. ⌜ r ≡ commandIn e ⌝ }
 {
     match e {
         Entry::Nothing => Command::Ask(Question::Report),
         Entry::Unknown => Command::Ask(Question::Report),
-        Entry::Start(_, _, _) => Command::Ask(Question::Report),
+        Entry::Start { .. } => Command::Ask(Question::Report),
         Entry::Put(c) => c,
     }
 }
@@ -171,14 +171,18 @@ fn no_outputs() -> [Output; BLOCK]
     [none; BLOCK]
 }
 
-// A start takes the place of the device that is there.
+// A start replaces the device.
 fn answered_in(e: Entry, a: Answer) -> Answer
     ensures { λ r. ⌜ r ≡ answeredIn e a ⌝ }
 {
     match e {
         Entry::Nothing => a,
         Entry::Unknown => a,
-        Entry::Start(time, supcode, custcode) => panel::start(time, supcode, custcode),
+        Entry::Start {
+            time,
+            supcode,
+            custcode,
+        } => panel::start(time, supcode, custcode),
         Entry::Put(_) => a,
     }
 }
@@ -189,7 +193,7 @@ fn echo_by(e: Entry, reply: Reply) -> Echo
     match e {
         Entry::Nothing => Echo::Nothing,
         Entry::Unknown => Echo::Unknown,
-        Entry::Start(_, _, _) => Echo::Said(reply),
+        Entry::Start { .. } => Echo::Said(reply),
         Entry::Put(_) => Echo::Said(reply),
     }
 }
@@ -208,14 +212,14 @@ fn state_in(a: Answer) -> State
     a.state
 }
 
-// A command leaves it as it was whether the state is whole, and a start hands a whole one back.
+// A command never changes whether the state is whole, and a start gives a whole state.
 fn sound_by(e: Entry, sound: bool) -> bool
     ensures { λ r. ⌜ r ≡ soundBy e sound ⌝ }
 {
     match e {
         Entry::Nothing => sound,
         Entry::Unknown => sound,
-        Entry::Start(_, _, _) => true,
+        Entry::Start { .. } => true,
         Entry::Put(_) => sound,
     }
 }
@@ -235,7 +239,7 @@ fn in_block(count: usize) -> usize
     if count < BLOCK { count } else { BLOCK }
 }
 
-// Puts the first lines of a block to the desk, one after another. Whether the state is whole is tested once.
+// Puts the first `count` lines of a block to the desk, one after another. Whether the state is whole is tested once for all of them.
 pub fn serve(d: Desk, inputs: [Input; BLOCK], count: usize) -> Served
     ensures { λ r. ⌜ r ≡ served d inputs count ⌝ }
 {

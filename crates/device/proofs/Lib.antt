@@ -1,3 +1,3 @@
--- The types that walks hand over, and the laws of the ways through the code.
+-- The types that walks hand over; and that each way through the code does what its command's definition says.
 pub mod Types
 pub mod Ways

@@ -1,5 +1,4 @@
--- The ways through the code: what each comes to is what the command comes to. And of a state that is said rightly to be whole or not, that is
--- its step.
+-- Each way through the code does what the definition of its command says. If `sound` says rightly whether the state is whole, that is the command's step.
 -- Assumes nothing.
 use Prim.Native.Nat.{ℕ}
 use mathlib.Core.Path.{_≡_, refl, sym, ap, _∙_}
@@ -81,7 +80,7 @@ module _ (sound : Bool) (s : State) (c : Command) (archive : List ArchiveLine) (
 
 -- ---- any command
 
--- what a contract of four facts says of it
+-- the four facts of the contract
 abbrev pub Comes : World × Reply → Answer → List ArchiveLine → List LogLine → List AuditLine → Type 0
 Comes o a archive log audit = (a ≡ answerIn o) × ((archive ≡ o .0 .archive) × ((log ≡ o .0 .log) × (audit ≡ o .0 .audit)))
 
@@ -126,7 +125,7 @@ module _ (sound : Bool) (s : State) (seen : Reply) (archive : List ArchiveLine) 
   rest-way (Call door act) no-1 no-2 no-3 = (refl, (refl, (refl, refl)))
   rest-way (Commit door) no-1 no-2 no-3 = absurd no-3
 
--- ---- where it is said rightly whether the state is whole, this is the step
+-- ---- if `sound` says rightly whether the state is whole, this is the step
 
 reply-is : (q : Question) (w : World) → replyBy (wholeB (w .state)) q w ≡ replyTo q w
 reply-is question.Report w = refl

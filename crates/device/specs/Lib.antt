@@ -1,2 +1,2 @@
--- One command over stores that are lent.
+-- One command over lent stores.
 pub mod Plan

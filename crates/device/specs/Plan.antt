@@ -1,5 +1,5 @@
--- How the code goes by the command: those that are lent a store by their kind, the rest by value; and what a command then comes to, by whether
--- the state is said to be whole. The laws that this is the step of the crate `steps` stand in the proofs.
+-- How the code sorts the commands: those that are lent a store by their kind, the rest by value; and what each then does, given whether the state is said to be
+-- whole. That this is `step` of the crate `steps` is proved in proofs/Ways.antt.
 -- Assumes nothing.
 use Prim.Native.Nat.{ℕ}
 use mathlib.Core.Bool.{Bool}
@@ -38,7 +38,7 @@ kindOf (Ask q) = 0
 kindOf (Call door act) = 0
 kindOf (Commit door) = 3
 
--- what a command of the kind brings; of any other, what nobody looks at
+-- what a command of the right kind brings; for any other command the result is never looked at
 unfoldable pub noReadings : Brought
 noReadings = record { time = 0; n = 0; raw = raw.Failed; pressure = pressure.Failed; k = compressibility.NotComputed }
 
@@ -124,7 +124,7 @@ replyBy sound (question.Archive i) w = archiveLineBy sound (w .state) i (w .arch
 replyBy sound (question.Log i) w = logLineBy sound (w .state) i (w .log)
 replyBy sound (question.Audit i) w = auditLineBy sound (w .state) i (w .audit)
 
--- a command that is no question asks nothing
+-- the reply to a command; for one that is no question it says nothing
 unfoldable pub seenBy : Bool → Command → World → Reply
 seenBy sound (Cycle r) w = plain 0
 seenBy sound (Turn t) w = plain 0

@@ -1,5 +1,5 @@
-// One command put to the device, over stores that are lent: what it answers, and the state after it. The state alone is copied, and a store is
-// handed on only to the commands that are lent it. Whoever calls has tested the state: `sound` says whether it is whole.
+// One command put to the device over lent stores: its answer, and the state after it. Only the state is copied. A store is passed on only to the commands that use
+// it. The caller has tested the state: `sound` says whether it is whole.
 use books::ArchiveLine;
 use books::AuditLine;
 use books::LogLine;
@@ -58,7 +58,7 @@ fn no_readings() -> Brought
     }
 }
 
-// What a command of the kind brings; of any other, what nobody looks at.
+// What a command of the right kind brings. For any other command the result is never looked at.
 
 fn brought_in(c: Command) -> Brought
     ensures { λ x. ⌜ x ≡ broughtIn c ⌝ }
@@ -157,15 +157,15 @@ fn line_in(line: Line) -> u64
     line.number
 }
 
-// What asks for a line of a store does not come here.
+// A question about a line of a store does not come here.
 fn state_reply(s: State, sound: bool, q: Question) -> Reply
     ensures { λ x. ⌜ x ≡ stateReply sound s q ⌝ }
 {
     match q {
         Question::Report => panel::report_by(s, sound),
-        Question::Archive(_) => commands::plain_reply(0),
-        Question::Log(_) => commands::plain_reply(0),
-        Question::Audit(_) => commands::plain_reply(0),
+        Question::Archive(_) => commands::plain_reply(state::faults::DONE),
+        Question::Log(_) => commands::plain_reply(state::faults::DONE),
+        Question::Audit(_) => commands::plain_reply(state::faults::DONE),
     }
 }
 
@@ -173,16 +173,16 @@ fn by_state(s: State, sound: bool, c: Command) -> Reply
     ensures { λ x. ⌜ x ≡ byState sound s c ⌝ }
 {
     match c {
-        Command::Cycle(_) => commands::plain_reply(0),
-        Command::Turn(_) => commands::plain_reply(0),
-        Command::Clear => commands::plain_reply(0),
+        Command::Cycle(_) => commands::plain_reply(state::faults::DONE),
+        Command::Turn(_) => commands::plain_reply(state::faults::DONE),
+        Command::Clear => commands::plain_reply(state::faults::DONE),
         Command::Ask(q) => state_reply(s, sound, q),
-        Command::Call(_, _) => commands::plain_reply(0),
-        Command::Commit(_) => commands::plain_reply(0),
+        Command::Call(_, _) => commands::plain_reply(state::faults::DONE),
+        Command::Commit(_) => commands::plain_reply(state::faults::DONE),
     }
 }
 
-// The reply to a question. A command that is none has its reply from `answer`.
+// The reply to a question. Any other command has its reply from `answer`.
 pub fn seen(
     s: State,
     sound: bool,
@@ -231,7 +231,7 @@ fn answered_by(reply: Reply, s: State) -> Answer
     }
 }
 
-// What is a question has its reply already; what writes a store does not come here.
+// A question has its reply already. A command that writes a store does not come here.
 fn by_value(s: State, sound: bool, c: Command, seen: Reply) -> Answer
     ensures { λ x. ⌜ x ≡ byValue sound s c seen ⌝ }
 {

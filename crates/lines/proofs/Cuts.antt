@@ -1,4 +1,4 @@
--- The loop's way through an input: it cuts at the first line feed, and the rest again.
+-- How the loop goes through an input: it cuts at the first line feed, and goes on with the rest.
 -- Assumes nothing.
 use Prim.Native.Nat.{ℕ, zero, suc, _+_, _-_, _≤_, _<_, zero-le}
 use native.Mathlib.Nat.{le-trans, not-suc-le-zero, le-of-suc-le-suc}

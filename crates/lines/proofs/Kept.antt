@@ -1,5 +1,5 @@
--- An unfinished line at the end of an input is kept cut to as much as decides its answer, and the input goes on behind it. What is served and
--- what is said is as if all of it had been kept.
+-- Of an unfinished line at the end of an input only so much is kept as decides its answer, and the input goes on behind it. What is served and said is as if all
+-- of the line had been kept.
 -- Assumes nothing.
 use native.Mathlib.Nat.{le-antisymm}
 use borrow.Author.Tests.{ltb-true, ltb-false}
@@ -19,7 +19,7 @@ use Rattle.desk.specs.Desk.{block, served}
 use Rattle.lines.proofs.Cuts.{cut-first}
 use Rattle.lines.specs.Lines.{lineFeed, inFront, wholeLines, bytesOf, inBlock, inputsOf, inputsIn, servedLines, saidLines}
 
--- bytes put before the first of these lines; where there is none they are in no whole line
+-- bytes put before the first of these lines; if there is no line they are in no whole line
 unfoldable pub ahead : List ℕ → List (List ℕ) → List (List ℕ)
 ahead a [] = []
 ahead a (line ∷ lines) = (a ++ line) ∷ lines

@@ -1,6 +1,7 @@
 -- Lines by the block: the entries of the whole lines of an input, what a desk says to them, and the lines of that.
 -- Assumes nothing.
 use Prim.Native.Nat.{ℕ, _+_, _-_, _*_}
+use Prim.Native.Char.{code as byte}
 use mathlib.Core.Path.{_≡_}
 use mathlib.Core.Bool.{cond}
 use mathlib.Core.List.{List, [], _∷_, _++_, map}
@@ -19,19 +20,19 @@ use Rattle.lines.specs.declared.Answers.{Answers}
 -- ---- the whole lines of an input
 
 abbrev pub lineFeed : ℕ
-lineFeed = 10
+lineFeed = byte "\n"
 
--- a byte before the first of these lines; where there is none, no line feed comes after the byte, and it is in no whole line
+-- a byte put before the first of these lines; if there is no line, no line feed follows the byte, so it is in no whole line
 unfoldable pub inFront : ℕ → List (List ℕ) → List (List ℕ)
 inFront b [] = []
 inFront b (line ∷ lines) = (b ∷ line) ∷ lines
 
--- cut at every line feed: the lines without their line feeds. What comes after the last line feed is no whole line
+-- the input cut at every line feed, the line feeds left out; what comes after the last line feed is no whole line
 unfoldable pub wholeLines : List ℕ → List (List ℕ)
 wholeLines [] = []
 wholeLines (b ∷ rest) = cond (eqb b lineFeed) ([] ∷ wholeLines rest) (inFront b (wholeLines rest))
 
--- how many bytes these lines were, each with its line feed
+-- how many bytes these lines take, each with its line feed
 unfoldable pub bytesOf : List (List ℕ) → ℕ
 bytesOf [] = 0
 bytesOf (line ∷ lines) = length line + 1 + bytesOf lines
@@ -63,7 +64,7 @@ echoLines (x ∷ outputs) = echoText (x .echo) ++ echoLines outputs
 abbrev pub room : ℕ
 room = enough * block
 
--- a text is put at the front: so many bytes, and behind them stands what stood there
+-- a text of so many bytes was put at the front; what stood behind it still does
 pub record Fronted (old new text : List ℕ) (used : ℕ) : Type 0 where
   pub many : used ≡ length text
   pub stands : new ≡ text ++ drop used old
@@ -76,7 +77,7 @@ servedLines d input = served d (inputsIn input .inputs) (inputsIn input .count)
 unfoldable pub saidLines : Desk → List ℕ → List ℕ
 saidLines d input = echoLines (take (inputsIn input .count) (servedLines d input .outputs))
 
--- with too little room nothing is put, and nothing is served either: no answer is lost
+-- with too little room nothing is written and nothing is put to the desk: no answer is lost
 unfoldable pub answersOf : Desk → List ℕ → List ℕ → Answers
 answersOf d input out =
     cond (ltb (length out) room)

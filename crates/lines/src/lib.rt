@@ -1,4 +1,4 @@
-// Lines by the block: the whole lines of an input put to a desk, and the lines of what is said to them.
+// Lines by the block: the whole lines of an input are put to a desk, and what is said to them is written as lines.
 use desk::Desk;
 use desk::Input;
 use desk::Output;
@@ -11,23 +11,23 @@ ghost use Rattle.desk.specs.Desk.{block};
 ghost use Rattle.lines.specs.Lines.{inputsIn, echoLines, room, Fronted, answersOf, answerText};
 
 // Room for a block of the longest lines.
-pub const ROOM: usize = 256 * desk::BLOCK;
+pub const ROOM: usize = text::echoes::ROOM * desk::BLOCK;
 
-// Entries for the desk, and how many bytes of the input they were.
+// Entries for the desk, and how many bytes of the input their lines took.
 pub struct Inputs {
     pub count: usize,
     pub inputs: [Input; desk::BLOCK],
     pub at: usize,
 }
 
-// The desk after some lines, how many bytes of the input these were, and how many bytes of text were put.
+// The desk after some lines, how many bytes of the input they took, and how many bytes of answers were written.
 pub struct Answers {
     pub desk: Desk,
     pub at: usize,
     pub used: usize,
 }
 
-// The entries of the whole lines of the input, one after another, as many as make a block.
+// The entries of the first whole lines of the input, in order; at most a block of them.
 pub fn inputs_in(input: &[u8]) -> Inputs
     ensures { λ r. ⌜ r ≡ inputsIn (now (input .entry)) ⌝ }
 {
@@ -58,7 +58,7 @@ pub fn inputs_in(input: &[u8]) -> Inputs
     }
 }
 
-// A line for each of the first answers of a block, and how many bytes they are together.
+// Writes a line for each of the first `count` answers, and says how many bytes they take together.
 fn put_echoes(out: &mut [u8], outputs: [Output; desk::BLOCK], count: usize) -> usize
     requires { ⌜ room ≤ length (now out) ⌝ }
     ensures { λ r. ⌜ Fronted (now (out .entry)) (now (out .exit)) (echoLines (take (min count block) outputs)) r ⌝ }
@@ -77,8 +77,8 @@ fn put_echoes(out: &mut [u8], outputs: [Output; desk::BLOCK], count: usize) -> u
     used
 }
 
-// Puts the whole lines of the input to the desk, a block of them at most, and the lines of what is said to the front of `out`. Where `out` has
-// not room for any block's lines, nothing is put to the desk either: no answer is ever lost.
+// Puts the first whole lines of the input, at most a block, to the desk, and writes the answers at the front of `out`. If `out` has not room for a block of the
+// longest lines, nothing is put to the desk: no answer is ever lost.
 pub fn answer(d: Desk, input: &[u8], out: &mut [u8]) -> Answers
     ensures { λ r. ⌜ (r ≡ answersOf d (now (input .entry)) (now (out .entry)))
         × (now (out .exit) ≡ answerText d (now (input .entry)) (now (out .entry)) ++ drop (r .used) (now (out .entry))) ⌝ }

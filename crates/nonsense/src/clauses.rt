@@ -1,5 +1,5 @@
-// Every command on states in which one clause of "whole" is broken, but for settings and staged values (see `values`). The states that are
-// whole stand at the ends of what is allowed.
+// Every command on states that break one clause of "whole"; `values` does this for settings and staged values. The states among them that are whole lie at the very
+// ends of what is allowed.
 use crate::lists::every;
 use print::end;
 use print::flag;
@@ -179,7 +179,7 @@ fn audit_trails() {
     audit(200, 0, 204);
 }
 
-// What a session has staged or read, in one setting.
+// What a session has staged or read of one setting.
 fn seen_at(label: &[u8], s: State, door: u64, setting: u64, place: usize, c: Cell) {
     two(label, door, setting);
     every(change::cell(s, door, place, c));
@@ -198,7 +198,7 @@ fn overtaken(door: u64, setting: u64, place: usize) {
     );
 }
 
-// Something staged or read where there is no session.
+// Something staged or read though there is no session.
 fn left_over(door: u64, setting: u64, place: usize) {
     let none = state::no_session();
     let s = change::session(two_sessions(), door, none);

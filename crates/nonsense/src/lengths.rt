@@ -1,4 +1,4 @@
-// Stores of a wrong length, on each store: one line short, one line long, and without a line.
+// Stores of a wrong length, each in turn: one line short, one line long, and empty.
 use crate::lists::all;
 use print::end;
 use print::number;

@@ -1,10 +1,10 @@
-// The commands that are put to a state, as the bench is given them.
+// The commands that are put to a state, in the bench's form.
 use state::State;
 use trials::trial::Lines;
 use trials::trial::each;
 use trials::trial::exact;
 
-// Every command, with what a whole state would have it accept.
+// Every command, with arguments that a whole state accepts.
 fn accepted(s: State, x: Lines) {
     each(
         b"open 2 1234\nshut 1\nclear\nreport\nlog 0\narchive 0\n",
@@ -22,7 +22,7 @@ pub fn every(s: State) {
     accepted(s, exact());
 }
 
-// From here on, what is refused for the state's sake, for the command's, or for both.
+// From here on: refused because of the state, of the command, or of both.
 
 fn locks_and_lines(s: State, x: Lines) {
     each(
@@ -74,7 +74,7 @@ fn sessions(s: State, x: Lines) {
     );
 }
 
-// The last four values are infinite, and fit no setting.
+// The last four values are infinite and fit no setting.
 fn writes(s: State, x: Lines) {
     each(
         b"write 0 1 w 1\nwrite 3 1 w 5\nwrite 1 22 w 1\nwrite 1 0 w 1\nwrite 2 22 w 1\nwrite 2 1 w 1\nwrite 2 1 w 5\nwrite 1 1 w 5\n",

@@ -1,6 +1,5 @@
-// Puts nonsense to every public function of the device and prints what it answers. First the states in which one clause of "whole" is broken,
-// then stores of a wrong length, then what is refused for several reasons at once. The file stdout beside it is what tools/nonsense.py works
-// out from the rules.
+// Puts nonsense to every public function of the device and prints the answers: first states that break one clause of "whole", then stores of a wrong length, then
+// commands refused for several reasons at once. The file stdout beside it is what tools/nonsense.py works out from the rules.
 mod clauses;
 mod lengths;
 mod lists;

@@ -1,4 +1,4 @@
-// What is refused for several reasons at once: the number answered is that of the first of them.
+// Commands refused for several reasons at once: the number answered is that of the first reason.
 use crate::lists::all;
 use print::title;
 use settings::Value;
@@ -19,7 +19,7 @@ fn put(label: &[u8], s: State) {
     all(s, exact());
 }
 
-// A refused start hands back what a start at time 0 with codes 0 gives.
+// A refused start gives what a start at time 0 with codes 0 gives.
 fn starts() {
     let a = panel::start(0, 0, 0);
     title(b"started at 0 with codes 0");
@@ -30,7 +30,7 @@ fn starts() {
     );
 }
 
-// No device that is whole counts 10^17 in one cycle of 600 pulses or fewer: 14 stands alone only where the state is not whole.
+// No whole device counts 10^17 in one cycle of at most 600 pulses, so 14 comes only where the state is not whole.
 fn one_reason() {
     let s = one_session();
     put(b"one session", s);

@@ -1,4 +1,4 @@
-// Every command on states with one setting, in force or staged at a door, that does not fit, and with a pair out of order.
+// Every command on states with one setting, in force or staged at a door, that does not fit; and on states with a pair out of order.
 use crate::lists::every;
 use print::end;
 use print::infinity;

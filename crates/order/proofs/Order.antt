@@ -1,5 +1,5 @@
--- The theorem of the order of the sessions, of any device that keeps a handful of laws. By the length of the run; what is known of an open
--- session is that it is stale, or that its steps so far lead to it from any core that is alike in all that it has looked at.
+-- The theorem on the order of the sessions, for any device that keeps a handful of laws. By induction on the run. Of an open session it is known that it is stale, or
+-- that its steps so far lead to it from any core that agrees with this one in all that the session has looked at.
 -- Assumes nothing.
 use mathlib.Core.Path.{_≡_, refl}
 use mathlib.Core.Logic.{_⊎_, inl, inr}
@@ -9,7 +9,7 @@ use mathlib.Core.List.{List, [], _∷_, _++_}
 use Rattle.order.specs.Order.{Door, keypad, port, Act, Role, aside, at, Fate, goesOn, dropped, committed, opens, fate, Device}
 use Rattle.order.specs.Order.{run, Past, steps, answers, trace, opened, continued, filed, placed, rearranged, Serialises}
 
--- How a device is built: all that is no session is its core.
+-- How a device is built. Its core is everything but the sessions.
 pub record Build (M : Device) : Type 1 where
   pub Core : Type 0
   pub Sess : Type 0
@@ -22,11 +22,11 @@ pub record Build (M : Device) : Type 1 where
   pub turn : M .Step → Core → Core × M .Answer
   -- a call at a door with no session: its answer
   pub outside : M .Step → Core → M .Answer
-  -- a call at a door with a session: the session after it, where that goes on, and the answer
+  -- a call at a door with a session: the session after it, if it goes on, and the answer
   pub inside : M .Step → Core → Sess → Sess × M .Answer
   -- the core with what the session has staged put in force, by this commit
   pub force : M .Step → Core → Sess → Core
-  -- the other door's session, the second, once the first has been put in force
+  -- the second session, that of the other door, once the first has been put in force
   pub overtake : Sess → Sess → Sess
 
 module _ (M : Device) (B : Build M) where
@@ -76,12 +76,12 @@ Fits P (some s) = P s
 
 -- What the device must satisfy.
 pub record Laws (M : Device) (B : Build M) : Type 1 where
-  -- a core, and an open session, as they come about
+  -- which cores, and which open sessions, can come about
   pub Good : B .Core → Type 0
   pub Fit : B .Sess → Type 0
   -- the session can no longer be committed
   pub Stale : B .Sess → Type 0
-  -- the cores are alike in all that the session has looked at
+  -- the two cores agree in all that the session has looked at
   pub Agree : B .Sess → B .Core → B .Core → Type 0
   pub closes : (c : B .Core) (s t : B .Sess) → M .closed (B .world c s t) ≡ B .world c (B .blank) (B .blank)
   -- each step does what the build says
@@ -92,7 +92,7 @@ pub record Laws (M : Device) (B : Build M) : Type 1 where
   pub calls-inside : (x : M .Step) (d : Door) (y : Act) → M .role x ≡ at d y
       → (c : B .Core) (s : B .Sess) (t : Option (B .Sess)) → Good c → Fit s → Fits Fit t → M .step x (held M B d c (some s) t)
       ≡ (held M B d (coreBy M B (fateOf M B y x c s) x c s) (mineBy M B (fateOf M B y x c s) x c s) (theirsBy M B (fateOf M B y x c s) s t), (B .inside x c s) .1)
-  -- cores and sessions stay as they come about
+  -- every step leads from what can come about to what can come about
   pub good-turn : (x : M .Step) → M .role x ≡ aside → (c : B .Core) → Good c → Good ((B .turn x c) .0)
   pub good-force : (x : M .Step) (d : Door) (y : Act) → M .role x ≡ at d y → (c : B .Core) (s : B .Sess) → Good c → Fit s
       → fateOf M B y x c s ≡ committed → Good (B .force x c s)
@@ -103,15 +103,15 @@ pub record Laws (M : Device) (B : Build M) : Type 1 where
   pub agree-refl : (s : B .Sess) (c : B .Core) → Agree s c c
   -- a step aside changes nothing that a session looks at
   pub agree-turn : (x : M .Step) → M .role x ≡ aside → (s : B .Sess) (c e : B .Core) → Good c → Fit s → Agree s ((B .turn x c) .0) e → Agree s c e
-  -- a begin that opens a session goes by nothing
+  -- a begin that opens a session does not depend on the core
   pub same-outside : (x : M .Step) (d : Door) (y : Act) → M .role x ≡ at d y → (c e : B .Core) → Good c → Good e
       → opens y (M .verdict (B .outside x c)) ≡ true → B .outside x e ≡ B .outside x c
-  -- a call adds to what the session has looked at, and goes by nothing else
+  -- a call adds to what the session has looked at, and depends on nothing else
   pub agree-inside : (x : M .Step) (d : Door) (y : Act) → M .role x ≡ at d y → (s : B .Sess) (c e : B .Core) → Good c → Good e → Fit s
       → fateOf M B y x c s ≡ goesOn → Agree ((B .inside x c s) .0) c e → Agree s c e
   pub same-inside : (x : M .Step) (d : Door) (y : Act) → M .role x ≡ at d y → (s : B .Sess) (c e : B .Core) → Good c → Good e → Fit s
       → fateOf M B y x c s ≡ goesOn → Agree ((B .inside x c s) .0) c e → B .inside x e s ≡ B .inside x c s
-  -- what is stale stays stale, and is not committed
+  -- a stale session stays stale, and is not committed
   pub stale-inside : (x : M .Step) (d : Door) (y : Act) → M .role x ≡ at d y → (c : B .Core) (s : B .Sess) → Good c → Fit s
       → fateOf M B y x c s ≡ goesOn → Stale s → Stale ((B .inside x c s) .0)
   pub stale-refused : (x : M .Step) (d : Door) (y : Act) → M .role x ≡ at d y → (c : B .Core) (s : B .Sess) → Good c → Fit s
@@ -145,7 +145,7 @@ module _ (M : Device) (B : Build M) (L : Laws M B) where
   abbrev at-door : Door → Core → Option Sess → Option Sess → World
   at-door d c m t = held M B d c m t
 
-  -- from any core that is alike for the session s, the steps p lead from no session to s
+  -- from any core that agrees for the session s, the steps p lead from no session to s
   abbrev Replayed : Door → Core → Sess → Past M → Type 0
   Replayed d c s p = (e : Core) → Good e → Agree s c e → Replays M (at-door d e none none) p (at-door d e (some s) none)
 
@@ -169,7 +169,7 @@ module _ (M : Device) (B : Build M) (L : Laws M B) where
   owes-turn x o d c (some s) (some p) g (f, inl st) = (f, inl st)
   owes-turn x o d c (some s) (some p) g (f, inr r) = (f, inr (λ e h a. r e h (agree-turn x o s c e g f a)))
 
-  -- what a call at a door does for the door: what is listed at its place leads on, with no session at either door
+  -- for the door at which a call is made: what is listed at the call's place leads on, with no session at either door
   abbrev Own : Door → Step → Core → Core → Option Sess → Past M × Option (Past M) → Type 0
   Own d x c c′ m′ f = Replays M (at-door d c none none) (f .0) (at-door d c′ none none) × Owes d c′ m′ (f .1) × Good c′
 
@@ -201,7 +201,7 @@ module _ (M : Device) (B : Build M) (L : Laws M B) where
   own-inside x d y o c s p g (f, inr r) committed q =
       (replays-append M (r c g (agree-refl s c)) (next (rw q at (calls-inside x d y o c s none g f tt)) stays), tt, good-force x d y o c s g f q)
 
-  -- what a call at the other door does for this one, d
+  -- for the door d, where the call is made at the other door
   overtaken-cases : (x : Step) (d : Door) (c : Core) (s t : Sess) (p : Past M) → Stale t ⊎ Replayed d c t p
       → Stale (overtake s t) ⊎ ((overtake s t ≡ t) × ((e : Core) → Agree t (force x c s) e → Agree t c e))
       → Stale (overtake s t) ⊎ Replayed d (force x c s) (overtake s t) p

@@ -11,12 +11,12 @@ pub data Door : Type 0 where
 pub data Act : Type 0 where
   begin read write commit abandon : Act
 
--- What a step is to the sessions: a call at one of the doors, or a step aside, which is no session's.
+-- What a step is to the sessions: a call at one of the doors, or a step aside, which belongs to no session.
 pub data Role : Type 0 where
   aside : Role
   at : Door → Act → Role
 
--- What an answer says of its step: done; refused, and the session ended; refused.
+-- What an answer says of its step: done; refused, and the session has ended; refused, and no more.
 pub data Verdict : Type 0 where
   done ended refused : Verdict
 
@@ -34,8 +34,8 @@ opens abandon v = false
 pub data Fate : Type 0 where
   goesOn dropped committed : Fate
 
--- A commit that is done puts the session in force, and one that is refused by 10, 11 or 12 ends it; refused otherwise, it is one more step of
--- the session, which stays open. An abandon that is done ends it.
+-- A commit that is done puts the session in force. One that is refused by 10, 11 or 12 ends it. Refused otherwise, it is one more step of the session, which stays
+-- open. An abandon that is done ends the session.
 abbrev pub fate : Act → Verdict → Fate
 fate begin v = goesOn
 fate read v = goesOn

@@ -1,1 +1,1 @@
-// The order of the sessions, of any device: definitions and a theorem, and no code.
+// The order of the sessions, for any device: definitions and a theorem, no code.

@@ -1,6 +1,6 @@
-// Puts one block of commands to a desk again and again, so that the device can be timed with the cost of its text set apart. The first line of
-// standard input is the number of passes, and the block's commands follow; a pass is what the bench does with a block between reading its
-// lines and writing its answers. Printed is how many commands the last pass accepted.
+// Puts one block of commands to a desk again and again, so that the device can be timed without its text. The first line of standard input is the number of passes;
+// the block's commands follow. A pass is what the bench does with a block between reading its lines and writing its answers. Prints how many commands the last pass
+// accepted.
 use commands::Echo;
 use commands::Reply;
 use desk::Desk;
@@ -11,10 +11,10 @@ use libc::STDOUT_FILENO;
 use text::numbers::Number;
 
 fn is_done(reply: Reply) -> bool {
-    reply.number == 0
+    reply.number == state::faults::DONE
 }
 
-// Accepted is a command whose number is 0.
+// A command is accepted if its number is 0.
 fn is_accepted(x: Output) -> bool {
     let echo = x.echo;
     match echo {

@@ -1,9 +1,9 @@
-// What the programs of trials and the card print to standard output: words, numbers, and floats by their bits. `number`, `signed`, `flag` and
-// `float` begin with a blank.
+// How the trial programs and the card print to standard output: words, numbers, and floats by their bits. `number`, `signed`, `flag` and `float` put a space first.
+use libc::STDOUT_FILENO;
 use settings::Value;
 
 pub fn text(s: &[u8]) {
-    io::write_all(1, s);
+    io::write_all(STDOUT_FILENO, s);
 }
 
 pub fn end() {
@@ -22,10 +22,10 @@ pub fn title(s: &[u8]) {
 
 pub fn number(n: u64) {
     text(b" ");
-    io::print_decimal(1, n);
+    io::print_decimal(STDOUT_FILENO, n);
 }
 
-// A number without its sign. The complement of a negative number is one less than its size, and fits even at the least.
+// A number without its sign. For a negative n, !n is its size less one, which fits even for the lowest number.
 pub fn magnitude(n: i64) -> u64 {
     if n < 0 {
         let less_one = settings::natural_of(Value::Whole(!n));
@@ -39,7 +39,7 @@ pub fn whole(n: i64) {
     if n < 0 {
         text(b"-");
     }
-    io::print_decimal(1, magnitude(n));
+    io::print_decimal(STDOUT_FILENO, magnitude(n));
 }
 
 pub fn signed(n: i64) {
@@ -55,7 +55,7 @@ pub fn flag(b: bool) {
     }
 }
 
-// 0 where x is no number.
+// 0 for a NaN.
 pub fn bits(x: f64) -> u64 {
     if x == x {
         return f64::to_bits(x);
@@ -63,11 +63,11 @@ pub fn bits(x: f64) -> u64 {
     0
 }
 
-// A float by the 16 digits of its bits, so that nothing is rounded in print.
+// A float as the 16 digits of its bits, so that printing rounds nothing.
 pub fn pattern(x: f64) {
     let is_number = x == x;
     if is_number {
-        io::print_hex(1, bits(x), 16);
+        io::print_hex(STDOUT_FILENO, bits(x), 16);
     } else {
         text(b"nan");
     }

@@ -1,5 +1,5 @@
--- Where the limits and the fixed value lie, there lies what is taken: p and K between two bounds, T within -10,000..20,000, and so T in
--- kelvin, which is T plus 27,315, from 17,315 to 47,315.
+-- What is taken lies in the range of the limits and of the fixed value: p and K between two bounds, T within -10,000..20,000. So T in kelvin, which is T plus
+-- 27,315, lies within 17,315..47,315.
 -- Assumes nothing.
 use mathlib.Core.Path.{_≡_, refl}
 use mathlib.Core.Bool.{Bool, true, false, _||_, cond}
@@ -33,7 +33,7 @@ use Rattle.readings.specs.Temperature.{measuredTaken, temperatureRead, t
 use Rattle.readings.specs.Kelvin.{kelvinOf}
 use Rattle.readings.specs.Plan.{kelvinGuarded}
 
--- a choice is good where both of what it chooses from are
+-- a choice has a property if each thing it can choose has it
 choice : {A : Type 0} (P : A → Type 0) (b : Bool) {x y : A} → (b ≡ true → P x) → (b ≡ false → P y) → P (cond b x y)
 choice P true f g = f refl
 choice P false f g = g refl
@@ -55,7 +55,7 @@ module _ (low high : ℕ) where
   read-bounds lowest highest fixed pressure.Failed h k b = b
   read-bounds lowest highest fixed (pressure.Pascals p) h k b = within-bounds lowest highest fixed p h k b
 
-  -- pMin, pMax and p.F from low to high: so is p
+  -- if pMin, pMax and p.F lie from low to high, so does p
   pub pressure-bounds : (mode lowest highest fixed : ℕ) (reading : Pressure) → low ≤ lowest → highest ≤ high → Between low high fixed → Between low high (pressureTaken mode lowest highest fixed reading .value)
   unfolding pressureTaken
   pressure-bounds mode lowest highest fixed reading h k b =
@@ -66,7 +66,7 @@ unfolding kRead
 k-read-bounds fixed NotComputed b = b
 k-read-bounds fixed (Computed k) b = within-bounds leastK mostK leastK mostK fixed k (le-refl leastK) (le-refl mostK) b
 
--- K.F from the lowest to the highest K: so is K
+-- if K.F lies from the least to the most K, so does K
 pub k-bounds : (mode fixed : ℕ) (reading : Compressibility) → Between leastK mostK fixed → Between leastK mostK (kTaken mode fixed reading .value)
 unfolding kTaken
 k-bounds mode fixed reading b = choice (λ (t : Taken). Between leastK mostK (t .value)) (eqb mode 0) (λ e. b) (λ e. k-read-bounds fixed reading b)
@@ -85,7 +85,7 @@ read-in-range lowest highest fixed c raw-temperature.Failed b = b
 read-in-range lowest highest fixed c (raw-temperature.Raw raw) b =
     measured-in-range lowest highest fixed (nearestOf (equationOf c raw)) (answered-in-range (equationOf c raw)) b
 
--- T.F within -10,000..20,000: so is T
+-- if T.F lies within -10,000..20,000, so does T
 pub temperature-in-range : (mode : ℕ) (lowest highest fixed : ℤ) (c : Coefficients) (reading : RawTemperature) → InRange fixed → InRange (temperatureTaken mode lowest highest fixed c reading .value)
 unfolding temperatureTaken
 temperature-in-range mode lowest highest fixed c reading b =

@@ -1,3 +1,3 @@
--- What the device cites of the readings: a mode of 0 never alarms, and what is taken lies where the settings lie.
+-- Laws of the readings that the device cites: a mode of 0 never alarms, and what is taken lies in the ranges of the settings.
 pub mod Off
 pub mod Bounds

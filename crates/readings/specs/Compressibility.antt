@@ -9,11 +9,11 @@ use Rattle.readings.specs.declared.Compressibility.{Compressibility}
 use Rattle.readings.specs.declared.Compressibility.the-variants.{NotComputed, Computed}
 use Rattle.readings.specs.Taken.{noAlarm, alarmWith, takenWithin}
 
--- K.F, and the reading
+-- from K.F and the reading
 unfoldable pub kRead : ℕ → Compressibility → Taken
 kRead fixed NotComputed = alarmWith fixed
 kRead fixed (Computed k) = takenWithin leastK mostK fixed k
 
--- Md.K before them
+-- from Md.K, K.F and the reading
 unfoldable pub kTaken : ℕ → ℕ → Compressibility → Taken
 kTaken mode fixed reading = cond (eqb mode 0) (noAlarm fixed) (kRead fixed reading)

@@ -8,11 +8,11 @@ use Rattle.readings.specs.declared.Pressure.{Pressure}
 use Rattle.readings.specs.declared.Pressure.the-variants.{Failed, Pascals}
 use Rattle.readings.specs.Taken.{noAlarm, alarmWith, takenWithin}
 
--- pMin, pMax, p.F, and the reading
+-- from pMin, pMax, p.F and the reading
 unfoldable pub pressureRead : ℕ → ℕ → ℕ → Pressure → Taken
 pressureRead lowest highest fixed Failed = alarmWith fixed
 pressureRead lowest highest fixed (Pascals p) = takenWithin lowest highest fixed p
 
--- Md.p before them
+-- from Md.p, pMin, pMax, p.F and the reading
 unfoldable pub pressureTaken : ℕ → ℕ → ℕ → ℕ → Pressure → Taken
 pressureTaken mode lowest highest fixed reading = cond (eqb mode 0) (noAlarm fixed) (pressureRead lowest highest fixed reading)

@@ -20,16 +20,16 @@ noTemperatureAlarm t = record { alarm = false; value = t }
 abbrev pub temperatureAlarmWith : ℤ → TakenTemperature
 temperatureAlarmWith fixed = record { alarm = true; value = fixed }
 
--- TMin, TMax, T.F, and T.Mes
+-- from TMin, TMax, T.F and T.Mes
 unfoldable pub measuredTaken : ℤ → ℤ → ℤ → Measured → TakenTemperature
 measuredTaken lowest highest fixed measured.Failed = temperatureAlarmWith fixed
 measuredTaken lowest highest fixed (measured.Hundredths t) = cond (ltZ t lowest || ltZ highest t) (temperatureAlarmWith fixed) (noTemperatureAlarm t)
 
--- TMin, TMax, T.F, the three coefficients, and the reading
+-- from TMin, TMax, T.F, the three coefficients and the reading
 unfoldable pub temperatureRead : ℤ → ℤ → ℤ → Coefficients → RawTemperature → TakenTemperature
 temperatureRead lowest highest fixed c Failed = temperatureAlarmWith fixed
 temperatureRead lowest highest fixed c (Raw raw) = measuredTaken lowest highest fixed (nearestOf (equationOf c raw))
 
--- Md.T before them
+-- from Md.T, TMin, TMax, T.F, the three coefficients and the reading
 unfoldable pub temperatureTaken : ℕ → ℤ → ℤ → ℤ → Coefficients → RawTemperature → TakenTemperature
 temperatureTaken mode lowest highest fixed c reading = cond (eqb mode 0) (noTemperatureAlarm fixed) (temperatureRead lowest highest fixed c reading)

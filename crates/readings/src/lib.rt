@@ -50,7 +50,7 @@ fn taken_within(lowest: u64, highest: u64, fixed: u64, x: u64) -> Taken
     }
 }
 
-// Md.p, pMin, pMax and p.F stand before the reading.
+// In this order: Md.p, pMin, pMax, p.F and the reading.
 pub fn pressure_taken(mode: u64, lowest: u64, highest: u64, fixed: u64, reading: Pressure) -> Taken
     ensures { λ r. ⌜ r ≡ pressureTaken mode lowest highest fixed reading ⌝ }
 {
@@ -70,7 +70,7 @@ pub fn pressure_taken(mode: u64, lowest: u64, highest: u64, fixed: u64, reading:
     taken_within(lowest, highest, fixed, p)
 }
 
-// Md.K and K.F stand before the reading.
+// In this order: Md.K, K.F and the reading.
 pub fn k_taken(mode: u64, fixed: u64, reading: Compressibility) -> Taken
     ensures { λ r. ⌜ r ≡ kTaken mode fixed reading ⌝ }
 {
@@ -118,7 +118,7 @@ fn measured_taken(
     }
 }
 
-// Md.T, TMin, TMax, T.F and the three coefficients stand before the reading.
+// In this order: Md.T, TMin, TMax, T.F, the three coefficients and the reading.
 pub fn temperature_taken(
     mode: u64,
     lowest: i64,

@@ -1,5 +1,5 @@
--- Every run at a desk began with a start: the desk was handed out fresh, and a start among the lines finds stores of their exact lengths, since no
--- step changes the length of a store.
+-- Every run at a desk began with a start. The desk was handed out fresh, and a start among the lines finds stores of their exact lengths, because no step changes the
+-- length of a store.
 -- Assumes nothing.
 use Prim.Native.Nat.{ℕ}
 use mathlib.Core.Path.{refl}

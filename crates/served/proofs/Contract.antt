@@ -1,5 +1,5 @@
--- The program's own functions: what is said here of a desk is said of what `desk::fresh` and `desk::serve` hand back. Their contracts are those that
--- the compiler made of their text (`Post`: of the arguments, the answer, and the arguments at the end), and are not written again here.
+-- The same, said of what the program's own functions `desk::fresh` and `desk::serve` hand back. Their contracts are those that the compiler made of their text
+-- (`Post`: of the arguments, the answer, and the arguments at the end); they are not written again here.
 -- Assumes nothing.
 use Prim.Native.Nat.{ℕ}
 use mathlib.Core.Path.{_≡_, ap, _∙_}

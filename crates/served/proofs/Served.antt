@@ -1,4 +1,4 @@
--- What is served is a run: the lines of a block, and of blocks one after another, come to the runs of their commands. By their number.
+-- What is served is a run: to serve the lines of a block, or of blocks one after another, is to run their commands. By induction on the number of lines.
 -- Assumes nothing.
 use Prim.Native.Nat.{ℕ, zero, suc, _+_, _-_, _≤_, min}
 use native.Mathlib.Omega.{arith}

@@ -1,4 +1,4 @@
--- Lines one after another are runs one after another. By the number of the lines.
+-- Lines one after another are runs one after another. By induction on the number of lines.
 -- Assumes nothing.
 use Prim.Native.Nat.{suc}
 use mathlib.Core.Path.{_≡_, refl, sym, ap, _∙_}

@@ -1,4 +1,4 @@
--- Starts among lines: each begins a run anew. And the desk that is handed out fresh is one that was just started.
+-- Starts among lines: each begins a new run. And a desk that is handed out fresh is one that was just started.
 -- Assumes nothing.
 use Prim.Native.Nat.{ℕ}
 use mathlib.Core.Path.{_≡_, refl, sym, ap, _∙_}
@@ -72,7 +72,7 @@ module _ (time supcode custcode : ℕ) (after : List Entry) where
   last-split r [] p qs = refl
   last-split r (x ∷ ps) p qs = last-split (next x r) ps p qs
 
-  -- A START BEGINS A RUN ANEW: of all that was before it, the run after it has the stores alone
+  -- A START BEGINS A NEW RUN, which has nothing but the stores of all that was before
   pub starts-anew : (before : List Entry) (w : World) → let v = endOf (lastRun before w) in
       lastRun (before ++ (entry.Start time supcode custcode ∷ after)) w ≡ lastRun after (started time supcode custcode (v .archive) (v .log) (v .audit))
   unfolding lastRun firstRun next

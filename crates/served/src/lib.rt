@@ -1,2 +1,1 @@
-// That the runs are the program's: what `desk::serve` hands back, block after block, are runs of steps, a start beginning each. Definitions and theorems,
-// and no code.
+// The runs are the program's: what `desk::serve` hands back, block after block, is what runs of steps give, each begun by a start. Definitions and theorems, no code.

@@ -164,7 +164,7 @@ pub fn row_of(k: usize) -> Row
     }
 }
 
-// A finite number less itself is 0; an infinity less itself is not a number, nor is what was none.
+// f - f is 0 exactly when f is finite; for an infinity or a NaN it is NaN.
 fn finite(f: f64) -> bool
     ensures { λ r. ⌜ r ≡ isFinite f ⌝ }
 {
@@ -217,7 +217,7 @@ pub fn factory(k: usize) -> Setting
     Setting { value: v }
 }
 
-// Total, so that callers need no bound: past the end stands the whole number 0, and a store is none.
+// Safe for any k: reading past the end gives 0, writing there changes nothing.
 pub fn setting_at(a: [Setting; COUNT], k: usize) -> Setting
     ensures { λ r. ⌜ r ≡ getD a k noSetting ⌝ }
 {

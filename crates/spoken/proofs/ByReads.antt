@@ -1,4 +1,4 @@
--- An input that is read by and by, in whatever pieces: what is put out is what the runs among its lines say. By the number of reads.
+-- An input that is read in pieces of any sizes: what is put out is what the runs among its lines say. By induction on the number of reads.
 -- Assumes nothing.
 use Prim.Native.Nat.{ℕ, _+_, _*_, _≤_}
 use native.Mathlib.Omega.{arith}

@@ -1,5 +1,5 @@
--- The program's own function: what is said here of one turn is said of what `lines::answer` does. Its contract is the one that the compiler made of its
--- text (`Post`: of the arguments, the answer, and the arguments at the end), and is not written again here.
+-- One turn, said of what the program's own function `lines::answer` does. Its contract is the one that the compiler made of its text (`Post`: of the arguments, the
+-- answer, and the arguments at the end); it is not written again here.
 -- Assumes nothing.
 use Prim.Native.Nat.{ℕ, _≤_}
 use mathlib.Core.Path.{_≡_, ap, _∙_}

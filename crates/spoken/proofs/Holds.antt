@@ -1,6 +1,6 @@
--- What is proved of every run is so of the desk that an input leaves. A desk is handed out fresh, and an input is put to it, in whatever pieces it is
--- read, with starts, empty and unknown lines in it. `back` is then the device with its stores at the end of the input, and `last` the run that is
--- under way: it began with the last start, and its steps are the commands since.
+-- What is proved of every run holds of the desk that an input leaves. A desk is handed out fresh, and an input is put to it in whatever pieces it is read, with
+-- starts, empty and unknown lines in it. `back` is the device with its stores at the end of the input. `last` is the run under way: it began with the last start, and
+-- its steps are the commands since.
 -- Assumes nothing.
 use Prim.Native.Nat.{ℕ, suc, _%_}
 use mathlib.Core.Path.{_≡_, refl, ap}
@@ -31,7 +31,7 @@ use Rattle.served.proofs.Holds.{OfEveryRun, holds-of-the-desk}
 use Rattle.spoken.specs.Spoken.{entriesOf, spoken, Read, inReads, allRead, EnoughAfter}
 use Rattle.spoken.proofs.ByReads.{read-by-read}
 
--- ---- a desk does not know how lines fell into blocks: let each have its own
+-- ---- how lines fall into blocks makes no difference to a desk: here each line is a block
 
 abbrev alone : Entry → Block
 alone e = record { inputs = input e ∷ replicate 255 noInput; count = 1; full = ap suc (length-replicate 255 noInput) }
@@ -50,7 +50,7 @@ holds-of-lines lines time supcode custcode P h =
     let bs : List Block = map alone (entriesOf lines) in
     rw (block-by-block bs fresh, each-alone (entriesOf lines)) at (holds-of-the-desk bs time supcode custcode P h)
 
--- ---- an input, read by and by
+-- ---- an input, read in pieces
 
 module _ (rs : List Read) (enough : EnoughAfter rs) (time supcode custcode : ℕ) where
   abbrev fresh : Desk

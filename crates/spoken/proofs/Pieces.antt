@@ -1,5 +1,5 @@
--- An input in two pieces: the lines of both together are those of the first, and those of what is left of it with the second. And what is left may be
--- kept cut to as much as decides its answer.
+-- An input in two pieces: its lines are those of the first piece, then those of what is left of it together with the second. Of what is left, only so much need be kept
+-- as decides its answer.
 -- Assumes nothing.
 use Prim.Native.Nat.{ℕ, zero, suc, _+_}
 use native.Mathlib.Omega.{arith}

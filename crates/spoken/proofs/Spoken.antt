@@ -1,4 +1,4 @@
--- What is put out to an input, turn after turn, is what the runs among its lines say. By the number of turns.
+-- What is put out to an input, turn after turn, is what the runs among its lines say. By induction on the number of turns.
 -- Assumes nothing.
 use Prim.Native.Nat.{ℕ, _+_, _*_, _≤_}
 use native.Mathlib.Omega.{arith}

@@ -1,5 +1,4 @@
--- An input at any moment: lines are answered, or where no whole line is held more is read behind what is kept. Each of both leads from one such moment
--- to the next.
+-- An input at any moment: lines are answered or, if no whole line is held, more is read behind what is kept. Either leads from one such moment to the next.
 -- Assumes nothing.
 use Prim.Native.Nat.{ℕ, _+_, _≤_}
 use native.Mathlib.Omega.{arith}

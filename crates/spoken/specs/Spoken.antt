@@ -68,7 +68,7 @@ Roomy (out ∷ outs) = (room ≤ length out) × Roomy outs
 unfoldable pub Enough : List (List ℕ) → List ℕ → Type 0
 Enough outs input = Roomy outs × (length (wholeLines input) ≤ length outs * block)
 
--- ---- an input read by and by
+-- ---- an input read in pieces
 
 -- the bytes that a read gave, and the stores of the turns that come after it. Where the input ends within a line, the line feed that the bench puts
 -- there is the last read.
@@ -76,7 +76,7 @@ pub record Read : Type 0 where
   pub bytes : List ℕ
   pub outs : List (List ℕ)
 
--- of what the turns leave, as much is held as decides the answer of a line
+-- of what the turns leave, so much is held as decides the answer of a line
 unfoldable pub heldAfter : List (List ℕ) → List ℕ → Desk → List ℕ
 heldAfter outs input d = take deciding (leftBy outs input d)
 

@@ -1,4 +1,4 @@
--- What is whole stays whole: the core after an accepted cycle, and the state after any step. What is not whole stays as it is.
+-- An accepted cycle keeps the core whole, and any step keeps the state whole. A state that is not whole stays as it is.
 -- Assumes nothing.
 use mathlib.Core.Path.{_≡_, refl, sym, ap, _∙_}
 use mathlib.Core.Bool.{Bool, true, false}
@@ -38,7 +38,7 @@ use Rattle.steps.specs.Step.{step}
 
 -- ---- the core
 
--- what a cycle at a time that there is measures
+-- what a cycle measures, its time being before the end of 2099
 measured-stays : (m : Measured) (time : ℕ) (found : Alarms) (amounts : Amounts) → ltb time endOfTime ≡ true → measuredB m ≡ true → measuredB (measuredBy m time found amounts) ≡ true
 unfolding measuredB
 measured-stays m time found amounts h e =
@@ -96,7 +96,7 @@ step-stays (Call door (Write setting v)) w e = rw e
 step-stays (Call door Abandon) w e = rw e
 step-stays (Commit door) w e = rw e
 
--- SO A STEP LEAVES IT AS IT WAS WHETHER THE STATE IS WHOLE
+-- SO A STATE IS WHOLE AFTER A STEP EXACTLY IF IT WAS WHOLE BEFORE
 pub step-keeps : (c : Command) (w : World) → wholeB ((step c w) .0 .state) ≡ wholeB (w .state)
 step-keeps c w = by (either-of (wholeB (w .state)))
   where

@@ -1,2 +1,2 @@
--- What is whole stays whole, and what is not stays as it is.
+-- A whole state stays whole, and any other stays as it is.
 pub mod Keeps

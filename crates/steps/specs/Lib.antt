@@ -1,2 +1,2 @@
--- What each command comes to.
+-- What each command does.
 pub mod Step

@@ -1,5 +1,4 @@
--- What each command comes to: the world and the reply after it. Each goes to the definition that the contract of its public function cites, and to
--- nothing else.
+-- What each command does: the world after it, and the reply. Each is sent to the definition that the contract of its public function cites, and to nothing else.
 -- Assumes nothing.
 use Prim.Native.Nat.{ℕ}
 use mathlib.Core.Bool.{Bool}

@@ -1,1 +1,1 @@
-// What each command comes to: one definition, which the contracts above the public functions and the theorems over runs cite; no code.
+// What each command does, as one definition. The contracts of the crates above and the theorems on runs cite it. No code.

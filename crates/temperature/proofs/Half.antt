@@ -1,5 +1,5 @@
--- Half of a whole number t, rounded away from zero, is t / 2 + t % 2 on machine numbers: t, its half, what is left, and their sum all fit.
--- A local holds bits, and `toZ-ofZ` reads back the number that was written.
+-- Half of a whole number t, rounded away from zero, is t / 2 + t % 2 on machine numbers: t, its half, the remainder and their sum all fit.
+-- A local holds bits; `toZ-ofZ` reads back the number that was written.
 -- Assumes nothing.
 use mathlib.Core.Path.{_≡_, sym, ap, _∙_, subst}
 use Prim.Native.Nat.{ℕ, zero, suc, _+_, _/_, _%_, _^_, _≤_, _<_, zero-le}
@@ -36,7 +36,7 @@ half-away-fits (pos a) f = record { sfits = smaller a (f .sfits) }
     smaller a h = omega arith
 half-away-fits (negsuc a) f = record { sfits = lt-of-le-of-lt (mag-minus ((a + 2) / 2) a (omega arith)) (f .sfits) }
 
--- for a t that fits, at what the machine reads of its bits
+-- for a t that fits, as the machine reads it back from its bits
 module _ (t : ℤ) (f : SFits w64 t) where
   abbrev pub held : ℤ
   held = toZ w64 (ofZ w64 t)

@@ -1,5 +1,5 @@
--- What an answer in hundredths is held to, and no more than one number can satisfy: it lies within -10,000..20,000, within half a unit of
--- the exact value, and at a half it is the one away from zero. All stated on whole numbers after multiplying out.
+-- What an answer in hundredths must satisfy, and only one number can: it lies within -10,000..20,000 and within half a unit of the exact value, and at a half it is
+-- the number away from zero. Stated on whole numbers, after multiplying out.
 -- Assumes nothing.
 use mathlib.Core.Path.{_≡_, refl, sym, ap, _∙_, subst}
 use mathlib.Core.Bool.{Bool, true, false, cond}
@@ -54,7 +54,7 @@ size-is-nearest s n d D =
       under-next = rw i high;
     }
 
--- no other whole number is
+-- no two different numbers are nearest
 pub one-nearest : (s : Bool) (n d : ℕ) (y z : ℤ) → IsNearest s n d y → IsNearest s n d z → y ≡ z
 one-nearest s n d y z a b = a .sign ∙ ap (signed s) (same (natAbs y) (natAbs z) (a .not-under) (a .under-next) (b .not-under) (b .under-next)) ∙ sym (b .sign)
   where

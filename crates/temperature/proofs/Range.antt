@@ -1,5 +1,5 @@
--- The program's two float tests against -10,000 and 20,000 say of a finite float what `inRange` says of it in whole numbers, and a float
--- that fails one of them counts as failed.
+-- For a finite float the program's two tests against -10,000 and 20,000 agree with `inRange`, which goes by whole numbers. A float that fails one of them counts
+-- as failed.
 -- Assumes nothing.
 use mathlib.Core.Path.{_≡_, refl, sym}
 use mathlib.Core.Bool.{Bool, true, false, not, _&&_, _||_, cond}
@@ -20,7 +20,7 @@ low-end = fin true 625 (pos 4)
 abbrev pub high-end : Float
 high-end = fin false 625 (pos 5)
 
--- on floats, at most is a test for less or one for equal; the latter may have its two numbers in either order
+-- on floats, "at most" is "less" or "equal"; "equal" may have its two numbers in either order
 at-most : (a b : ℕ) (same : Bool) → (T same → a * 1 ≡ b) → T (ltb (a * 1) b || (same && true)) → T (leb a b)
 at-most a b same is h = by-case (ltb (a * 1) b) same (ltb→lt (a * 1) b) is h
   where

@@ -1,5 +1,5 @@
--- Of a float x within -10,000..20,000: twice x is a float exactly, the whole part of that fits an i64, and its half, rounded away from
--- zero, is the whole number nearest x. The size of x is n / d, with n = m · up e and d = down e.
+-- For a float x within -10,000..20,000: x + x is exact, its whole part fits an i64, and half of that, rounded away from zero, is the whole number nearest x.
+-- The size of x is n / d, with n = m · up e and d = down e.
 -- Assumes nothing.
 use mathlib.Core.Path.{_≡_, refl, sym, ap, _∙_, subst}
 use mathlib.Core.Bool.{Bool, true, false, _&&_, cond}

@@ -5,7 +5,7 @@ use lib.IntN.{pos}
 use lib.Ieee.{Float, binary64, ofBits, mul, add, ofInt}
 use Rattle.temperature.specs.declared.Coefficients.{Coefficients}
 
--- 100, by the bits of the float
+-- 100, given by its bits
 abbrev pub hundred : Float
 hundred = ofBits binary64 0x4059_0000_0000_0000
 

@@ -1,6 +1,6 @@
 -- The whole number nearest the exact value of a float, halves away from zero, for a float within -10,000..20,000.
 -- A finite float is `fin s m e`: ± m · 2^e, with a minus where s is true. Its size m · 2^e is written n / d in whole numbers: n is
--- m · up e and d is down e, of which one factor is 1.
+-- m · up e and d is down e, and one of up e and down e is 1.
 -- Assumes nothing.
 use Prim.Native.Nat.{ℕ, _+_, _*_, _/_}
 use mathlib.Core.Bool.{Bool, true, false, cond}
@@ -16,7 +16,7 @@ abbrev pub inRange : Bool → ℕ → ℕ → Bool
 inRange false n d = leb n (natAbs hottest * d)
 inRange true n d = leb n (natAbs coldest * d)
 
--- the whole number nearest n / d, of two equally near the larger: the whole part of n / d + 1 / 2
+-- the whole number nearest n / d, the larger of two equally near: the whole part of n / d + 1 / 2
 abbrev pub nearestSize : ℕ → ℕ → ℕ
 nearestSize n d = (2 * n + d) / (2 * d)
 

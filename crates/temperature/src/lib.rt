@@ -1,10 +1,10 @@
-// T.Mes: the raw temperature through the temperature equation, and the nearest hundredth of a degree.
+// T.Mes: the raw temperature put through the temperature equation, then rounded to the nearest hundredth of a degree.
 use ground::ranges;
 ghost use mathlib.Core.Path.{_≡_};
 ghost use Rattle.temperature.specs.Equation.{equationOf};
 ghost use Rattle.temperature.specs.Nearest.{nearestOf};
 
-// The ends of what a temperature may be, in hundredths of a degree. Both are floats exactly.
+// The least and the most that a temperature may be, in hundredths of a degree. Both are exact as floats.
 const COLDEST: f64 = ranges::COLDEST as f64;
 
 const HOTTEST: f64 = ranges::HOTTEST as f64;
@@ -16,14 +16,13 @@ pub struct Coefficients {
     pub eq3: f64,
 }
 
-// T.Mes in 0.01 °C, or that there is none.
+// T.Mes in 0.01 °C, or that the measurement failed.
 pub enum Measured {
     Failed,
     Hundredths(i64),
 }
 
-// Six operations, each of which rounds once. The order is part of the promise: another order rounds
-// to other floats. A raw value is a float exactly.
+// Six operations, each rounding once. The order is part of the promise: another order can give another float. A raw value is exact as a float.
 pub fn equation(c: Coefficients, raw: u16) -> f64
     ensures { λ r. ⌜ r ≡ equationOf c raw ⌝ }
 {
@@ -36,9 +35,8 @@ pub fn equation(c: Coefficients, raw: u16) -> f64
     degrees * 100.0
 }
 
-// Adding a half in floats would round on its own. Twice x is a float exactly, so the half of its whole
-// part, rounded away from zero, is the answer: the half rounded toward zero, and what is left of the
-// division, which is -1, 0 or 1.
+// x + 0.5 could itself be rounded, so it is not used. x + x is exact. The answer is half of its whole part t, rounded away from zero: t / 2 rounds toward zero, and
+// the remainder t % 2, which is -1, 0 or 1, makes up for it.
 pub fn nearest_hundredth(x: f64) -> Measured
     ensures { λ r. ⌜ r ≡ nearestOf x ⌝ }
 {

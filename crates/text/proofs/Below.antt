@@ -1,4 +1,4 @@
--- A number below zero by way of the number before it: -1 less n - 1.
+-- -n worked out as -1 - (n - 1).
 -- Assumes nothing.
 use mathlib.Core.Path.{_≡_, refl, sym, ap, _∙_, subst⁻¹}
 use Prim.Native.Nat.{ℕ, zero, suc, _-_, _+_, _≤_, _<_}

@@ -1,4 +1,4 @@
--- Laws of the words of a line: what the loops over a line's bytes pass, one byte after another.
+-- Laws for the loops that go through a line byte by byte.
 -- Assumes nothing.
 use mathlib.Core.Path.{_≡_, refl, sym, ap, _∙_}
 use mathlib.Core.Bool.{Bool, true, false, cond, _&&_}
@@ -17,7 +17,7 @@ use Rattle.text.specs.Words.{firstOf, sameB, deciding, keptOf, keptPart,
 pub the-rest : (l : List ℕ) (at : ℕ) → take (length l - at) (drop at l) ≡ drop at l
 the-rest l at = take-all (length l - at) (drop at l) (omega (arith, length-drop at l))
 
--- at the byte looked for nothing is left to pass
+-- at the byte looked for the search stops
 pub stops : (b : ℕ) (s : List ℕ) (i : ℕ) → i < length s → getD s i 0 ≡ b → firstOf b (drop i s) ≡ 0
 unfolding firstOf
 stops b s i h e = rw (drop-cons s i 0 h, eq-eqb (getD s i 0) b e)

@@ -1,5 +1,5 @@
--- An unfinished line is kept cut to 201 bytes, one more than a command may have, so that memory stays as it is. These laws say that nothing is
--- lost by it: the kept part has the answer of the whole line, and has it still when the rest of the line has come.
+-- Of an unfinished line at most 201 bytes are kept, one more than a command may have, so that memory does not grow. These laws say that nothing is lost: the kept
+-- part gets the answer of the whole line, also after the rest of the line has come.
 -- Assumes nothing.
 use Prim.Native.Nat.{ℕ, suc, _<_}
 use native.Mathlib.Nat.{not-suc-le-zero}
@@ -14,7 +14,7 @@ use borrow.Author.Tests.{ltb-true, ltb-false, lt-ltb, ne-eqb}
 use Rattle.text.specs.Words.{deciding}
 use Rattle.text.specs.Entries.{longest, isQuiet, entryOf}
 
--- of a line that is too long only the first byte matters: nothing is answered where it is `#`, else `?`
+-- of a line that is too long only the first byte matters: with `#` it gets no answer, else `?`
 by-first : (l m : List ℕ) → longest < length l → longest < length m → getD l 0 0 ≡ getD m 0 0 → entryOf l ≡ entryOf m
 unfolding entryOf isQuiet
 by-first l m h k e =
@@ -26,7 +26,7 @@ first-kept : (n : ℕ) (a b : List ℕ) → 0 < length a → getD (take (suc n) 
 first-kept n [] b h = absurd (not-suc-le-zero h)
 first-kept n (x ∷ a) b h = refl
 
--- The beginning of a line, kept cut and continued later, has the answer of the whole line, whatever the rest is.
+-- The beginning of a line, cut and continued later, gets the answer of the whole line, whatever the rest is.
 pub cut-continued : (a b : List ℕ) → entryOf (take deciding a ++ b) ≡ entryOf (a ++ b)
 cut-continued a b = by-test (ltb deciding (length a)) refl
   where
@@ -37,6 +37,6 @@ cut-continued a b = by-test (ltb deciding (length a)) refl
         by-first (take deciding a ++ b) (a ++ b) (omega (arith, length-append (take deciding a) b)) (omega (arith, length-append a b)) (first-kept 200 a b (omega arith))
     by-test false e = ap (λ (l : List ℕ). entryOf (l ++ b)) (take-all deciding a (ltb-false deciding (length a) e))
 
--- A line cut to its first 201 bytes has the answer of the whole line.
+-- A line cut to its first 201 bytes gets the answer of the whole line.
 pub cut-decides : (line : List ℕ) → entryOf (take deciding line) ≡ entryOf line
 cut-decides line = ap entryOf (sym (append-nil (take deciding line))) ∙ cut-continued line [] ∙ ap entryOf (append-nil line)

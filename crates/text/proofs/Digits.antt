@@ -1,4 +1,4 @@
--- What the digits of a word come to: it grows with each digit, and the test before the product is the test on the sum.
+-- The number that digits spell: it grows with each digit, and testing before multiplying is as good as testing the result.
 -- Assumes nothing.
 use mathlib.Core.Path.{_≡_, refl, sym, _∙_, subst}
 use mathlib.Core.Bool.{Bool, true, false, cond, _&&_, true≢false}
@@ -70,7 +70,7 @@ no-digit base w k h e = by-cases (either-of (allBelow (digitAt base w) (length w
     by-cases (is-true t) = absurd (true≢false (sym (all-each (digitAt base w) (length w) t k h) ∙ e))
     by-cases (is-false f) = refused (number.Is (spelled base w (length w))) (ltb 0 (length w)) (rw f)
 
--- too much after some of the digits, and it is too much after all
+-- if some of the digits spell too much already, so do all of them
 pub too-much : (base : ℕ) (w : List ℕ) (k : ℕ) → 0 < base → k ≤ length w → largest < spelled base w k → number.NotOne ≡ numberIn base w
 unfolding numberIn isNumber
 too-much base w k p h o =

@@ -1,6 +1,7 @@
 -- What is said, as a line: a number, words with a space before each, and a line feed at the end.
 -- Assumes nothing.
-use Prim.Native.Nat.{ℕ, zero, suc, _+_, _/_, _%_, _≤_}
+use Prim.Native.Nat.{ℕ, zero, suc, _+_, _-_, _/_, _%_, _≤_}
+use Prim.Native.Char.{code as byte}
 use mathlib.Core.Path.{_≡_}
 use mathlib.Core.Bool.{Bool, cond}
 use mathlib.Core.List.{List, [], _∷_, _++_}
@@ -22,11 +23,12 @@ use Rattle.commands.specs.declared.Given.the-variants as given
 use Rattle.commands.specs.declared.Reply.{Reply}
 use Rattle.commands.specs.declared.Echo.{Echo}
 use Rattle.commands.specs.declared.Echo.the-variants as echo
+use Rattle.text.specs.Words.{bytes, space}
 
 -- ---- a text put at a place
 
--- the text stands at the place, what was before it still does, the next place is after it, at most n bytes on, what is from there on stays as it
--- was, and the line has the same room
+-- a text was put at a place: what stood before the place still does, the next place is right behind the text and at most n bytes on, what stands from there on is
+-- as it was, and the length is the same
 pub record Put (n : ℕ) (old new : List ℕ) (at next : ℕ) (text : List ℕ) : Type 0 where
   pub holds : take next new ≡ take at old ++ text
   pub least : at ≤ next
@@ -38,14 +40,14 @@ pub record Put (n : ℕ) (old new : List ℕ) (at next : ℕ) (text : List ℕ) 
 
 -- `0` to `9`, then `a` to `f`
 unfoldable pub glyph : ℕ → ℕ
-glyph d = cond (ltb d 10) (48 + d) (87 + d)
+glyph d = cond (ltb d 10) (byte "0" + d) (byte "a" - 10 + d)
 
--- the last k digits of n in this base, the first of them first
+-- the last k digits of n in this base, in reading order
 unfoldable pub digits : ℕ → ℕ → ℕ → List ℕ
 digits base zero n = []
 digits base (suc k) n = digits base k (n / base) ++ (glyph (n % base) ∷ [])
 
--- one digit, and as many more as it takes, up to m more
+-- how many digits n has, but never more than m + 1
 unfoldable pub placesUpTo : ℕ → ℕ → ℕ
 placesUpTo zero n = 1
 placesUpTo (suc m) n = cond (ltb n 10) 1 (suc (placesUpTo m (n / 10)))
@@ -57,33 +59,33 @@ places n = placesUpTo 19 n
 unfoldable pub decimal : ℕ → List ℕ
 decimal n = digits 10 (places n) n
 
--- with `-` before its digits where it is below zero
+-- a number below zero has `-` before its digits
 unfoldable pub signed : ℤ → List ℕ
-signed n = cond (ltZ n (pos 0)) (45 ∷ decimal (natAbs n)) (decimal (natAbs n))
+signed n = cond (ltZ n (pos 0)) (byte "-" ∷ decimal (natAbs n)) (decimal (natAbs n))
 
--- the bits of a float; a NaN has none of its own, and is never printed: 0
+-- the bits of a float; 0 for a NaN, which is never printed
 unfoldable pub bitsOf : Float → ℕ
 bitsOf f = cond (isNan f) 0 (toBits binary64 f)
 
 -- `1` or `0`
 unfoldable pub flag : Bool → ℕ
-flag on = cond on 49 48
+flag on = cond on (byte "1") (byte "0")
 
 -- ---- words
 
 -- a word and the space before it
 abbrev pub spaced : List ℕ → List ℕ
-spaced w = 32 ∷ w
+spaced w = space ∷ w
 
--- words in a row, each with the space before it
+-- words in a row, each with a space before it
 unfoldable pub joined : List (List ℕ) → List ℕ
 joined [] = []
 joined (w ∷ ws) = spaced w ++ joined ws
 
 -- `w` and a whole number, or `c` and 16 hexadecimal digits
 unfoldable pub valueWords : Value → List (List ℕ)
-valueWords (Whole n) = (119 ∷ []) ∷ signed n ∷ []
-valueWords (Coefficient f) = (99 ∷ []) ∷ digits 16 16 (bitsOf f) ∷ []
+valueWords (Whole n) = bytes "w" ∷ signed n ∷ []
+valueWords (Coefficient f) = bytes "c" ∷ digits 16 16 (bitsOf f) ∷ []
 
 unfoldable pub flagWords : Bool → Bool → Bool → List (List ℕ)
 flagWords a b c = (flag a ∷ []) ∷ (flag b ∷ []) ∷ (flag c ∷ []) ∷ []
@@ -135,18 +137,18 @@ givenWords (given.Audit l) = auditWords l
 
 -- the number on the fault card, 0 where done, the words of what is given, and the line feed
 unfoldable pub saidText : Reply → List ℕ
-saidText r = decimal (r .number) ++ (joined (givenWords (r .given)) ++ (10 ∷ []))
+saidText r = decimal (r .number) ++ (joined (givenWords (r .given)) ++ bytes "\n")
 
 -- `?` and the line feed
 unfoldable pub unknownText : List ℕ
-unknownText = 63 ∷ 10 ∷ []
+unknownText = bytes "?\n"
 
 unfoldable pub echoText : Echo → List ℕ
 echoText echo.Nothing = []
 echoText echo.Unknown = unknownText
 echoText (echo.Said r) = saidText r
 
--- the room that any echo's line has enough of; with less from its place on, nothing is put
+-- room enough for any line; where there is less, nothing is put
 abbrev pub enough : ℕ
 enough = 256
 

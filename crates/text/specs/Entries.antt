@@ -1,7 +1,7 @@
--- A line as an entry: how many words it has and the first of them say which, and the words after that are its numbers, readings and values. A line
--- that is none of these is unknown.
+-- A line read as an entry. Its first word and how many words it has say which entry; the other words are numbers, readings or a value. Any other line is unknown.
 -- Assumes nothing.
 use Prim.Native.Nat.{ℕ}
+use Prim.Native.Char.{code as byte}
 use mathlib.Core.Bool.{Bool, cond, _||_}
 use mathlib.Core.List.{List, [], _∷_}
 use lib.Dec.{ltb, eqb}
@@ -27,7 +27,7 @@ use Rattle.text.specs.declared.numbers.ComputedReading.{ComputedReading}
 use Rattle.text.specs.declared.numbers.ComputedReading.the-variants as computedReading
 use Rattle.text.specs.declared.numbers.Wanted.{Wanted}
 use Rattle.text.specs.declared.numbers.Wanted.the-variants as wanted
-use Rattle.text.specs.Words.{sameB, word, noWord}
+use Rattle.text.specs.Words.{bytes, sameB, word, noWord}
 use Rattle.text.specs.Numbers.{numberIn, codeOf, readingOf, rawBy, pressureBy, computedBy, valueIn}
 
 -- a longer line is no command
@@ -36,27 +36,27 @@ longest = 200
 
 -- an empty line, or one that begins with `#`
 unfoldable pub isQuiet : List ℕ → Bool
-isQuiet line = eqb (length line) 0 || eqb (getD line 0 0) 35
+isQuiet line = eqb (length line) 0 || eqb (getD line 0 0) (byte "#")
 
 -- ---- a word alone, and a word with one, two or three numbers: a row for each
 
 -- report; clear
 unfoldable pub alone : List ℕ → Entry
 alone w =
-    cond (sameB w (114 ∷ 101 ∷ 112 ∷ 111 ∷ 114 ∷ 116 ∷ [])) (entry.Put (Ask question.Report))  -- report
-    (cond (sameB w (99 ∷ 108 ∷ 101 ∷ 97 ∷ 114 ∷ [])) (entry.Put Clear)  -- clear
+    cond (sameB w (bytes "report")) (entry.Put (Ask question.Report))
+    (cond (sameB w (bytes "clear")) (entry.Put Clear)
     entry.Unknown)
 
 -- begin, commit, abandon DOOR; shut LOCK; archive, log, audit I
 unfoldable pub withOne : List ℕ → ℕ → Entry
 withOne w n =
-    cond (sameB w (98 ∷ 101 ∷ 103 ∷ 105 ∷ 110 ∷ [])) (entry.Put (Call n Begin))  -- begin
-    (cond (sameB w (99 ∷ 111 ∷ 109 ∷ 109 ∷ 105 ∷ 116 ∷ [])) (entry.Put (Commit n))  -- commit
-    (cond (sameB w (97 ∷ 98 ∷ 97 ∷ 110 ∷ 100 ∷ 111 ∷ 110 ∷ [])) (entry.Put (Call n Abandon))  -- abandon
-    (cond (sameB w (115 ∷ 104 ∷ 117 ∷ 116 ∷ [])) (entry.Put (Turn (Shut n)))  -- shut
-    (cond (sameB w (97 ∷ 114 ∷ 99 ∷ 104 ∷ 105 ∷ 118 ∷ 101 ∷ [])) (entry.Put (Ask (question.Archive n)))  -- archive
-    (cond (sameB w (108 ∷ 111 ∷ 103 ∷ [])) (entry.Put (Ask (question.Log n)))  -- log
-    (cond (sameB w (97 ∷ 117 ∷ 100 ∷ 105 ∷ 116 ∷ [])) (entry.Put (Ask (question.Audit n)))  -- audit
+    cond (sameB w (bytes "begin")) (entry.Put (Call n Begin))
+    (cond (sameB w (bytes "commit")) (entry.Put (Commit n))
+    (cond (sameB w (bytes "abandon")) (entry.Put (Call n Abandon))
+    (cond (sameB w (bytes "shut")) (entry.Put (Turn (Shut n)))
+    (cond (sameB w (bytes "archive")) (entry.Put (Ask (question.Archive n)))
+    (cond (sameB w (bytes "log")) (entry.Put (Ask (question.Log n)))
+    (cond (sameB w (bytes "audit")) (entry.Put (Ask (question.Audit n)))
     entry.Unknown))))))
 
 unfoldable pub oneOr : List ℕ → Number → Entry
@@ -70,8 +70,8 @@ openBy lock (code.Is c) = entry.Put (Turn (Open lock c))
 
 unfoldable pub withTwo : List ℕ → ℕ → ℕ → Entry
 withTwo w a b =
-    cond (sameB w (114 ∷ 101 ∷ 97 ∷ 100 ∷ [])) (entry.Put (Call a (Read b)))  -- read
-    (cond (sameB w (111 ∷ 112 ∷ 101 ∷ 110 ∷ [])) (openBy a (codeOf b))  -- open
+    cond (sameB w (bytes "read")) (entry.Put (Call a (Read b)))
+    (cond (sameB w (bytes "open")) (openBy a (codeOf b))
     entry.Unknown)
 
 unfoldable pub twoOr : List ℕ → Number → Number → Entry
@@ -87,7 +87,7 @@ startBy time (code.Is a) (code.Is b) = entry.Start time a b
 
 unfoldable pub withThree : List ℕ → ℕ → ℕ → ℕ → Entry
 withThree w a b c =
-    cond (sameB w (115 ∷ 116 ∷ 97 ∷ 114 ∷ 116 ∷ [])) (startBy a (codeOf b) (codeOf c))  -- start
+    cond (sameB w (bytes "start")) (startBy a (codeOf b) (codeOf c))
     entry.Unknown
 
 unfoldable pub threeOr : List ℕ → Number → Number → Number → Entry
@@ -101,7 +101,7 @@ threeOr w (number.Is a) (number.Is b) (number.Is c) = withThree w a b c
 -- write DOOR SETTING w VALUE; write DOOR SETTING c HEX
 unfoldable pub withValue : List ℕ → ℕ → ℕ → Value → Entry
 withValue w a b v =
-    cond (sameB w (119 ∷ 114 ∷ 105 ∷ 116 ∷ 101 ∷ [])) (entry.Put (Call a (Write b v)))  -- write
+    cond (sameB w (bytes "write")) (entry.Put (Call a (Write b v)))
     entry.Unknown
 
 unfoldable pub valueOr : List ℕ → Number → Number → Wanted → Entry
@@ -113,7 +113,7 @@ valueOr w (number.Is a) (number.Is b) (wanted.Is v) = withValue w a b v
 -- cycle TIME N RAW P K
 unfoldable pub withReadings : List ℕ → Brought → Entry
 withReadings w brought =
-    cond (sameB w (99 ∷ 121 ∷ 99 ∷ 108 ∷ 101 ∷ [])) (entry.Put (Cycle brought))  -- cycle
+    cond (sameB w (bytes "cycle")) (entry.Put (Cycle brought))
     entry.Unknown
 
 unfoldable pub readingsOr : List ℕ → Number → Number → RawReading → PressureReading → ComputedReading → Entry

@@ -1,8 +1,9 @@
--- A word as a number, a reading or a value.
+-- A word read as a number, a reading or a value.
 -- Assumes nothing.
 use Prim.Native.Nat.{ℕ, zero, suc, _+_, _-_, _*_}
+use Prim.Native.Char.{code as byte}
 use mathlib.Core.Bool.{Bool, true, false, cond, _&&_}
-use mathlib.Core.List.{List, [], _∷_}
+use mathlib.Core.List.{List}
 use lib.Dec.{ltb, leb, eqb}
 use lib.ListN.{length, getD, drop}
 use lib.IntN.{ℤ, pos, negℤ}
@@ -26,19 +27,19 @@ use Rattle.text.specs.declared.numbers.ComputedReading.{ComputedReading}
 use Rattle.text.specs.declared.numbers.ComputedReading.the-variants as computedReading
 use Rattle.text.specs.declared.numbers.Wanted.{Wanted}
 use Rattle.text.specs.declared.numbers.Wanted.the-variants as wanted
-use Rattle.text.specs.Words.{sameB}
+use Rattle.text.specs.Words.{bytes, sameB}
 
 -- ---- numbers
 
 -- `0` to `9` are 0 to 9, `a` to `f` are 10 to 15, and any other byte is no digit: 16
 unfoldable pub digitOf : ℕ → ℕ
-digitOf b = cond (ltb b 48) 16 (cond (ltb b 58) (b - 48) (cond (ltb b 97) 16 (cond (ltb b 103) (b - 87) 16)))
+digitOf b = cond (ltb b (byte "0")) 16 (cond (ltb b (byte "9" + 1)) (b - byte "0") (cond (ltb b (byte "a")) 16 (cond (ltb b (byte "f" + 1)) (b - (byte "a" - 10)) 16)))
 
 -- byte k of a word is a digit of this base
 unfoldable pub digitAt : ℕ → List ℕ → ℕ → Bool
 digitAt base w k = ltb (digitOf (getD w k 0)) base
 
--- what the first k digits of a word come to
+-- the number that the first k digits of a word spell
 unfoldable pub spelled : ℕ → List ℕ → ℕ → ℕ
 spelled base w zero = 0
 spelled base w (suc k) = base * spelled base w k + digitOf (getD w k 0)
@@ -47,7 +48,7 @@ spelled base w (suc k) = base * spelled base w k + digitOf (getD w k 0)
 abbrev pub largest : ℕ
 largest = 18446744073709551615
 
--- one digit at least, nothing but digits, and 64 bits hold what they come to
+-- at least one digit, nothing but digits, and a number that fits 64 bits
 unfoldable pub isNumber : ℕ → List ℕ → Bool
 isNumber base w = ltb 0 (length w) && (allBelow (digitAt base w) (length w) && leb (spelled base w (length w)) largest)
 
@@ -69,7 +70,7 @@ readingBy number.NotOne = reading.NotOne
 readingBy (number.Is n) = reading.Is n
 
 unfoldable pub readingOf : List ℕ → Reading
-readingOf w = cond (sameB w (45 ∷ [])) reading.Missing (readingBy (numberIn 10 w))
+readingOf w = cond (sameB w (bytes "-")) reading.Missing (readingBy (numberIn 10 w))
 
 abbrev pub rawBy : Reading → RawReading
 rawBy reading.NotOne = rawReading.NotOne
@@ -97,9 +98,9 @@ wholeBy negative number.NotOne = wanted.NotOne
 wholeBy true (number.Is n) = cond (leb n 9223372036854775808) (wanted.Is (Whole (belowZero n))) wanted.NotOne
 wholeBy false (number.Is n) = cond (ltb n 9223372036854775808) (wanted.Is (Whole (pos n))) wanted.NotOne
 
--- with `-` before its digits where it is below zero
+-- a number below zero has `-` before its digits
 unfoldable pub wholeOf : List ℕ → Wanted
-wholeOf w = cond (eqb (getD w 0 0) 45) (wholeBy true (numberIn 10 (drop 1 w))) (wholeBy false (numberIn 10 w))
+wholeOf w = cond (eqb (getD w 0 0) (byte "-")) (wholeBy true (numberIn 10 (drop 1 w))) (wholeBy false (numberIn 10 w))
 
 -- the float of these bits, a NaN's and an infinity's too
 abbrev pub coefficientBy : Number → Wanted
@@ -108,4 +109,4 @@ coefficientBy (number.Is n) = wanted.Is (Coefficient (ofBits binary64 n))
 
 -- `w` and a whole number, or `c` and the bits of a coefficient
 unfoldable pub valueIn : List ℕ → List ℕ → Wanted
-valueIn kind w = cond (sameB kind (119 ∷ [])) (wholeOf w) (cond (sameB kind (99 ∷ [])) (coefficientBy (hexOf w)) wanted.NotOne)
+valueIn kind w = cond (sameB kind (bytes "w")) (wholeOf w) (cond (sameB kind (bytes "c")) (coefficientBy (hexOf w)) wanted.NotOne)

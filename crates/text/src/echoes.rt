@@ -1,4 +1,6 @@
-// What is said, as a line. Each function puts its text at a place of the line and answers the place after it.
+// What is said, written as a line. Each function puts its text at a place of `out` and answers the place after it.
+use crate::words::LETTERS;
+use crate::words::LINE_FEED;
 use commands::Echo;
 use commands::Given;
 use commands::Reply;
@@ -9,8 +11,8 @@ ghost use lib.ListN.{length};
 ghost use lib.IntN.{natAbs};
 ghost use Rattle.text.specs.Echoes.{Put, glyph, digits, places, decimal, spaced, flag, signed, bitsOf, valueWords, joined, flagWords, numberWords, archiveWords, logWords, auditWords, counterWords, lampWords, momentWords, givenWords, saidText, unknownText, textFor};
 
-// More than the longest line: a report's seven numbers of 20 digits, nine flags, and a space before each.
-const ROOM: usize = 256;
+// Room for any line. The longest is a report: seven numbers of at most 20 digits and nine flags, each after a space.
+pub const ROOM: usize = 256;
 
 fn put_byte(out: &mut [u8], at: usize, b: u8) -> usize
     requires { ⌜ at < length (now out) ⌝ }
@@ -24,7 +26,11 @@ fn glyph_of(d: u64) -> u8
     requires { ⌜ d < 16 ⌝ }
     ensures { λ r. ⌜ r ≡ glyph d ⌝ }
 {
-    if d < 10 { 48 + d as u8 } else { 87 + d as u8 }
+    if d < 10 {
+        b'0' + d as u8
+    } else {
+        LETTERS + d as u8
+    }
 }
 
 // How many decimal digits a number has.
@@ -43,7 +49,7 @@ fn places_of(n: u64) -> usize
     k
 }
 
-// The last k digits of a number, from the last to the first.
+// Puts the last k digits of a number, beginning with the last.
 fn put_digits(out: &mut [u8], at: usize, base: u64, k: usize, n: u64) -> usize
     requires { ⌜ (at + k ≤ length (now out)) × ((1 < base) × (base ≤ 16)) ⌝ }
     ensures { λ r. ⌜ Put k (now (out .entry)) (now (out .exit)) at r (digits base k n) ⌝ }
@@ -64,7 +70,7 @@ fn put_number(out: &mut [u8], at: usize, n: u64) -> usize
     requires { ⌜ at + 21 ≤ length (now out) ⌝ }
     ensures { λ r. ⌜ Put 21 (now (out .entry)) (now (out .exit)) at r (spaced (decimal n)) ⌝ }
 {
-    let next = put_byte(out, at, 32);
+    let next = put_byte(out, at, b' ');
     let k = places_of(n);
     put_digits(out, next, 10, k, n)
 }
@@ -72,14 +78,14 @@ fn put_number(out: &mut [u8], at: usize, n: u64) -> usize
 fn flag_of(on: bool) -> u8
     ensures { λ r. ⌜ r ≡ flag on ⌝ }
 {
-    if on { 49 } else { 48 }
+    if on { b'1' } else { b'0' }
 }
 
 fn put_flag(out: &mut [u8], at: usize, on: bool) -> usize
     requires { ⌜ at + 2 ≤ length (now out) ⌝ }
     ensures { λ r. ⌜ Put 2 (now (out .entry)) (now (out .exit)) at r (spaced (flag on ∷ [])) ⌝ }
 {
-    let next = put_byte(out, at, 32);
+    let next = put_byte(out, at, b' ');
     let b = flag_of(on);
     put_byte(out, next, b)
 }
@@ -101,8 +107,8 @@ fn put_signed(out: &mut [u8], at: usize, n: i64) -> usize
     let negative = ground::less(n, 0);
     let size = magnitude(n);
     if negative {
-        let next = put_byte(out, at, 32);
-        let third = put_byte(out, next, 45);
+        let next = put_byte(out, at, b' ');
+        let third = put_byte(out, next, b'-');
         let k = places_of(size);
         return put_digits(out, third, 10, k, size);
     }
@@ -123,15 +129,15 @@ fn put_value(out: &mut [u8], at: usize, v: settings::Value) -> usize
     requires { ⌜ at + 24 ≤ length (now out) ⌝ }
     ensures { λ r. ⌜ Put 24 (now (out .entry)) (now (out .exit)) at r (joined (valueWords v)) ⌝ }
 {
-    let next = put_byte(out, at, 32);
+    let next = put_byte(out, at, b' ');
     match v {
         settings::Value::Whole(n) => {
-            let third = put_byte(out, next, 119);
+            let third = put_byte(out, next, b'w');
             put_signed(out, third, n)
         }
         settings::Value::Coefficient(f) => {
-            let third = put_byte(out, next, 99);
-            let fourth = put_byte(out, third, 32);
+            let third = put_byte(out, next, b'c');
+            let fourth = put_byte(out, third, b' ');
             let bits = bits_of(f);
             put_digits(out, fourth, 16, 16, bits)
         }
@@ -252,18 +258,18 @@ fn said_line(out: &mut [u8], at: usize, reply: Reply) -> usize
     let k = places_of(n);
     let next = put_digits(out, at, 10, k, n);
     let last = put_given(out, next, given);
-    put_byte(out, last, 10)
+    put_byte(out, last, LINE_FEED)
 }
 
 fn unknown_line(out: &mut [u8], at: usize) -> usize
     requires { ⌜ at + 256 ≤ length (now out) ⌝ }
     ensures { λ r. ⌜ Put 256 (now (out .entry)) (now (out .exit)) at r unknownText ⌝ }
 {
-    let next = put_byte(out, at, 63);
-    put_byte(out, next, 10)
+    let next = put_byte(out, at, b'?');
+    put_byte(out, next, LINE_FEED)
 }
 
-// Nothing is put where there is not room for any line.
+// Puts nothing if there is less than ROOM left.
 pub fn echo_line(out: &mut [u8], at: usize, echo: Echo) -> usize
     ensures { λ r. ⌜ Put 256 (now (out .entry)) (now (out .exit)) at r (textFor (now (out .entry)) at echo) ⌝ }
 {

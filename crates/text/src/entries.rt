@@ -1,4 +1,4 @@
-// A line as an entry: how many words it has and the first of them say which, and the words after that are its numbers, readings and values.
+// A line read as an entry. Its first word and how many words it has say which entry; the other words are numbers, readings or a value.
 use crate::numbers::Code;
 use crate::numbers::ComputedReading;
 use crate::numbers::Number;
@@ -7,6 +7,7 @@ use crate::numbers::RawReading;
 use crate::numbers::Reading;
 use crate::numbers::Wanted;
 use crate::numbers::code_of;
+use crate::words::LONGEST;
 use crate::words::after_word;
 use crate::words::same;
 use crate::words::word_between;
@@ -21,17 +22,14 @@ ghost use Rattle.text.specs.Words.{wordBetween};
 ghost use Rattle.text.specs.Numbers.{numberIn, readingOf};
 ghost use Rattle.text.specs.Entries.{isQuiet, alone, withOne, oneOr, openBy, withTwo, twoOr, startBy, withThree, threeOr, withValue, valueOr, withReadings, readingsOr, entryIn, entryOf};
 
-// A longer line is no command.
-const LONGEST: usize = 200;
-
-// Nothing is answered to an empty line, nor to one that begins with `#`.
+// An empty line, or one that begins with `#`, gets no answer.
 fn is_quiet(line: &[u8]) -> bool
     ensures { λ r. ⌜ r ≡ isQuiet (now (line .entry)) ⌝ }
 {
     if line.len() == 0 {
         return true;
     }
-    line[0] == 35
+    line[0] == b'#'
 }
 
 // ---- a word alone, and a word with one, two or three numbers: a row for each
@@ -126,7 +124,11 @@ fn start_by(time: u64, two: Code, three: Code) -> Entry
     let Code::Is(b) = three else {
         return Entry::Unknown;
     };
-    Entry::Start(time, a, b)
+    Entry::Start {
+        time: time,
+        supcode: a,
+        custcode: b,
+    }
 }
 
 fn with_three(w: &[u8], a: u64, b: u64, c: u64) -> Entry

@@ -1,5 +1,4 @@
-// The text of the bench: a line taken apart into an entry, and what is said put into a line. All of it works on slices and values;
-// nothing here reads or writes.
+// The text of the bench: a line is read into an entry, and what is said is written as a line. Slices and values only; nothing here does input or output.
 pub mod echoes;
 pub mod entries;
 pub mod numbers;

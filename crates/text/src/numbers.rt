@@ -1,4 +1,5 @@
-// A word as a number, a reading or a value. A word that is none of what is asked for is `NotOne`.
+// A word read as a number, a reading or a value. `NotOne` means that the word is not what was asked for.
+use crate::words::LETTERS;
 ghost use mathlib.Core.Path.{_≡_};
 ghost use Prim.Native.Nat.{_<_, _≤_};
 ghost use lib.Ieee.{ofBits, binary64};
@@ -14,7 +15,7 @@ pub enum Code {
     Is(u32),
 }
 
-// A reading word: `-` where there is none.
+// A reading. The word `-` stands for a missing one.
 pub enum Reading {
     NotOne,
     Missing,
@@ -36,34 +37,42 @@ pub enum ComputedReading {
     Is(readings::Compressibility),
 }
 
-// The value that a setting is wanted to have.
+// The value that a write wants a setting to have.
 pub enum Wanted {
     NotOne,
     Is(settings::Value),
 }
 
-// The largest of what an f64's bits are after the sign where they are no NaN's, those of an infinity; and the weight of the sign.
+// Larger than any digit.
+const NO_DIGIT: u64 = 16;
+
+const PAST_NINE: u8 = b'9' + 1;
+
+const PAST_F: u8 = b'f' + 1;
+
+// The bits of an infinity, its sign left out. Every larger pattern is a NaN's.
 const INFINITE: u64 = 0x7ff0_0000_0000_0000;
 
+// The weight of an f64's sign bit.
 const SIGN: u64 = 0x8000_0000_0000_0000;
 
-// 16 for a byte that is no digit.
+// `0` to `9`, and `a` to `f` for 10 to 15.
 fn digit_of(b: u8) -> u64
     ensures { λ r. ⌜ r ≡ digitOf b ⌝ }
 {
-    if b < 48 {
-        return 16;
+    if b < b'0' {
+        return NO_DIGIT;
     }
-    if b < 58 {
-        return (b - 48) as u64;
+    if b < PAST_NINE {
+        return (b - b'0') as u64;
     }
-    if b < 97 {
-        return 16;
+    if b < b'a' {
+        return NO_DIGIT;
     }
-    if b < 103 {
-        return (b - 87) as u64;
+    if b < PAST_F {
+        return (b - LETTERS) as u64;
     }
-    16
+    NO_DIGIT
 }
 
 fn number_in(base: u64, w: &[u8]) -> Number
@@ -80,7 +89,7 @@ fn number_in(base: u64, w: &[u8]) -> Number
         if base <= d {
             return Number::NotOne;
         }
-        // The next value fits exactly when this one is no larger.
+        // The next value fits exactly if this one is at most `most`.
         let most = (u64::MAX - d) / base;
         if most < value {
             return Number::NotOne;
@@ -165,7 +174,7 @@ pub fn computed_of(r: Reading) -> ComputedReading
     }
 }
 
-// The whole number n below zero, by way of n - 1: the lowest has no counterpart above zero.
+// -n, worked out as -1 - (n - 1), because the lowest number has no counterpart above zero.
 fn below_zero(n: u64) -> i64
     requires { ⌜ n ≤ 9223372036854775808 ⌝ }
     ensures { λ r. ⌜ r ≡ belowZero n ⌝ }
@@ -196,20 +205,20 @@ fn whole_by(negative: bool, n: Number) -> Wanted
     }
 }
 
-// A whole number, with `-` before its digits where it is below zero.
+// A whole number. One below zero has `-` before its digits.
 fn whole_of(w: &[u8]) -> Wanted
     ensures { λ r. ⌜ r ≡ wholeOf (now (w .entry)) ⌝ }
 {
     if w.len() == 0 {
         return Wanted::NotOne;
     }
-    if w[0] == 45 {
+    if w[0] == b'-' {
         return whole_by(true, number_of(&w[1..]));
     }
     whole_by(false, number_of(w))
 }
 
-// Every NaN is one value, and its bits cannot be taken as they are.
+// All NaNs are one value here, so a NaN's bits are not taken as they are.
 fn float_of(bits: u64) -> f64
     ensures { λ r. ⌜ r ≡ ofBits binary64 bits ⌝ }
 {

@@ -3,9 +3,15 @@ ghost use mathlib.Core.Path.{_≡_};
 ghost use Rattle.text.specs.Words.{firstOf, afterWord, wordBetween, sameB, keptOf, Kept};
 
 // What ends a line.
-pub const LINE_FEED: u8 = 10;
+pub const LINE_FEED: u8 = b'\n';
 
-// How many bytes stand before the first that equals b: all of them, where none does.
+// Added to a digit from 10 to 15 it gives the letter.
+pub const LETTERS: u8 = b'a' - 10;
+
+// A longer line is no command.
+pub const LONGEST: usize = 200;
+
+// How many bytes come before the first b; all of them if there is no b.
 pub fn first_of(s: &[u8], b: u8) -> usize
     ensures { λ r. ⌜ r ≡ firstOf b (now (s .entry)) ⌝ }
 {
@@ -19,18 +25,18 @@ pub fn first_of(s: &[u8], b: u8) -> usize
     i
 }
 
-// Where the word after the one at this place begins. A line that has no word here has none after it, and the place stays.
+// Where the word after the one at this place begins. Past the end of the line the place stays as it is.
 pub fn after_word(line: &[u8], at: usize) -> usize
     ensures { λ r. ⌜ r ≡ afterWord (now (line .entry)) at ⌝ }
 {
     if line.len() < at {
         return at;
     }
-    let n = first_of(&line[at..], 32);
+    let n = first_of(&line[at..], b' ');
     at + n + 1
 }
 
-// The word at one place, where the next word's place is known: it ends one byte before that.
+// The word at one place. It ends one byte before the place of the next word.
 pub fn word_between(line: &[u8], at: usize, next: usize) -> &[u8]
     ensures { λ r. ⌜ now r ≡ wordBetween (now (line .entry)) at next ⌝ }
 {
@@ -63,8 +69,8 @@ pub fn same(a: &[u8], b: &[u8]) -> bool
     true
 }
 
-// How much of an unfinished line has to be kept: one byte more than a command may have, so that a longer line stays longer.
-const KEPT: usize = 201;
+// How much of an unfinished line is kept: one byte more than a command may have, so that a line that is too long stays too long.
+const KEPT: usize = LONGEST + 1;
 
 fn kept_of(n: usize) -> usize
     ensures { λ r. ⌜ r ≡ keptOf n ⌝ }
@@ -72,7 +78,7 @@ fn kept_of(n: usize) -> usize
     if n < KEPT { n } else { KEPT }
 }
 
-// Moves the bytes from one place up to another to the front, cut to what has to be kept, and answers how many those are.
+// Moves the bytes from `from` up to `to` to the front, but at most KEPT of them, and answers how many.
 pub fn keep(input: &mut [u8], from: usize, to: usize) -> usize
     ensures { λ r. ⌜ Kept (now (input .entry)) (now (input .exit)) from to r ⌝ }
 {

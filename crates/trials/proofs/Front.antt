@@ -1,5 +1,5 @@
--- The first elements of a local array of plain data, lent for the time of one call, as a `&mut [T]` or as a `&[T]`; the rest stays where it is.
--- How many are lent is no more than there are. It says nothing of the books.
+-- The first elements of a local array of plain data, lent for one call as a `&mut [T]` or a `&[T]`; the rest stays where it is. No more are lent than there are.
+-- Nothing here is about the books.
 --     rest-row         the elements that are not lent, in their place
 --     front-length     as many are lent as the number says
 --     lends-front      the local's cell, cut: the first elements lent as a `&mut [T]`, what the lender keeps, and the rest

@@ -1,4 +1,4 @@
--- To lend more lines than there are is to lend them all.
+-- Lending more lines than there are is lending all of them.
 -- Assumes nothing.
 use mathlib.Core.Path.{_≡_, refl, sym, ap, _∙_, subst}
 use Prim.Native.Nat.{ℕ, zero, suc, min}
@@ -29,7 +29,7 @@ module _ {A : Type 0} where
   drop-all-there zero (x ∷ xs) = ap (λ (j : ℕ). drop j (x ∷ xs)) (zero-min (suc (length xs)))
   drop-all-there (suc m) (x ∷ xs) = ap (λ (j : ℕ). drop j (x ∷ xs)) (suc-min-suc m (length xs)) ∙ drop-all-there m xs
 
-  -- what is cut in two, at a number that is cut to the length n
+  -- a list cut in two, at a number that is never more than its length n
   parted : {B : Type 0} (f : List A → List A → B) (n m : ℕ) (xs : List A) → length xs ≡ n → f (take (min m n) xs) (drop (min m n) xs) ≡ f (take m xs) (drop m xs)
   parted f n m xs e =
       subst (λ (k : ℕ). f (take (min m k) xs) (drop (min m k) xs) ≡ f (take m xs) (drop m xs)) e

@@ -1,5 +1,5 @@
--- One command over stores of which the first lines are lent: it comes to what it comes to over stores that have no other lines, and what is
--- not lent comes back as it was.
+-- One command over stores of which only the first lines are lent: it does what it does over stores that have just these lines, and the other lines come back as they
+-- were.
 -- Assumes nothing.
 use Prim.Native.Nat.{ℕ}
 use mathlib.Core.List.{List, _++_}
@@ -24,7 +24,7 @@ theLent answer archive log audit = record { answer = answer; archive = archive; 
 abbrev pub withRest : World × Reply → List ArchiveLine → List LogLine → List AuditLine → Lent
 withRest t archive log audit = theLent (answerIn t) (t .0 .archive ++ archive) (t .0 .log ++ log) (t .0 .audit ++ audit)
 
--- the step over these stores; `take` of more lines than there are is all of them
+-- the step over the lent lines; `take` of more lines than there are takes all of them
 unfoldable pub lentOf : State → Command → List ArchiveLine → List LogLine → List AuditLine → ℕ → ℕ → ℕ → Lent
 lentOf s c archive log audit months events changes =
     withRest (step c (worldOf s (take months archive) (take events log) (take changes audit))) (drop months archive) (drop events log) (drop changes audit)

@@ -1,4 +1,4 @@
-// A whole state that every command accepts, from which the trials start.
+// The whole state from which the trials start. Every command can be accepted in it.
 use ring::Book;
 use ring::Ring;
 use settings::Value;
@@ -17,7 +17,7 @@ const SUPPLIERS_CODE: u32 = 1234;
 
 const CUSTOMERS_CODE: u32 = 98_765;
 
-// In March 2003, the month of number 38.
+// In March 2003, which is month 38.
 pub const TIME: u64 = 100_000_000;
 
 const MONTH: u64 = 38;
@@ -52,7 +52,7 @@ pub fn book(held: u64, next: u64, number: u16) -> Book {
     }
 }
 
-// The pressure alarm is present, that of the temperature is over and still latched. The archive and the logbook are full.
+// The pressure alarm is present; the temperature alarm is over but still latched. The archive and the logbook are full.
 fn core() -> Core {
     let factory = settings::factory_settings();
     let blank = state::fresh_state(TIME, SUPPLIERS_CODE, CUSTOMERS_CODE);
@@ -108,13 +108,13 @@ fn open_session() -> Session {
     Session { live: true, cells }
 }
 
-// K.F is read, p.F staged.
+// It has read K.F and staged p.F.
 fn keypad() -> Session {
     let x = with_cell(open_session(), 15, seen(true, false));
     with_cell(x, 13, staged(Value::Whole(150_000)))
 }
 
-// The customer's number is read and staged.
+// It has read the customer's number and staged it.
 fn port() -> Session {
     let c = Cell {
         staged: true,

@@ -123,7 +123,7 @@ pub fn shut(s: State) -> State {
     locks(s, base::locks(false, false, false))
 }
 
-// K.F, which door 1 has read, was put in force through the other door.
+// K.F, which door 1 has read, has been put in force through the other door since.
 pub fn stale(s: State) -> State {
     cell(s, 1, 15, base::seen(true, true))
 }

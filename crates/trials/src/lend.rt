@@ -1,5 +1,5 @@
-// One command over stores of any length, for a caller that holds its stores by value: the first lines of each array are lent for the time of
-// the command, and the arrays come back beside the answer. Each array has room for one line more than its store.
+// One command over stores of any length, for a caller that holds its stores by value. The first lines of each array are lent for the command, and the arrays come
+// back beside the answer. Each array has room for one line more than its store should have.
 use books::ArchiveLine;
 use books::AuditLine;
 use books::LogLine;
@@ -45,7 +45,7 @@ fn at_most(n: usize, most: usize) -> usize
     if n < most { n } else { most }
 }
 
-// Where a number is larger than its array, the whole array is lent.
+// If a number is larger than its array, the whole array is lent.
 pub fn put(
     s: State,
     c: Command,

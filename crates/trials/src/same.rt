@@ -1,4 +1,4 @@
-// Whether two values are the same in every field. Floats are held together bit by bit; of two that are no number, only that they are none.
+// Whether two values are the same in every field. Floats are compared bit by bit; all NaNs count as the same.
 use ground::both;
 use print::bits;
 use settings::Value;

@@ -1,4 +1,4 @@
-// The stores that are lent: each line tells its own place, so that one written, moved or wiped is seen.
+// The stores that are lent. Each line says its own place, so that a line written, moved or wiped is noticed.
 use crate::lend::ARCHIVE;
 use crate::lend::AUDIT;
 use crate::lend::LOG;

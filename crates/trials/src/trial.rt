@@ -1,5 +1,5 @@
-// Trials of a state: commands as the bench is given them, one a line, each put to the state over stores of which some lines are lent. What is printed
-// is the command, the number that it answers, what has become of the state and the stores, and whether a value was given.
+// Trials of a state: commands in the bench's form, one a line, each put to the state over stores of which some lines are lent. Printed are the command, the number
+// answered, what has become of the state and the stores, and whether a value was given.
 use crate::change;
 use crate::lend;
 use crate::lend::Lent;
@@ -37,7 +37,7 @@ fn gives_value(g: Given) -> bool {
     }
 }
 
-// All lines of the arrays, those that were not lent too.
+// All lines of the arrays, including those that were not lent.
 fn stores_kept(t: Lent) -> bool {
     let archive = t.archive;
     let log = t.log;
@@ -54,7 +54,7 @@ fn ended(s: State, door: u64, after: State) -> bool {
     same::states(without, after)
 }
 
-// What was handed back, against what was handed in. A session that ended is told by its door, where nothing else has changed.
+// Compares what came back with what went in. If only a session has ended, its door is named.
 fn fate(s: State, after: State, kept: bool) {
     if both(kept, same::states(s, after)) {
         text(b" same");
@@ -86,7 +86,7 @@ fn told(s: State, t: Lent) {
     }
 }
 
-// A start is lent nothing, and takes the place of the state.
+// A start is lent nothing, and replaces the state.
 fn started(s: State, time: u64, supcode: u32, custcode: u32) {
     let a = panel::start(time, supcode, custcode);
     let reply = a.reply;
@@ -99,7 +99,11 @@ fn answer(s: State, e: Entry, x: Lines) {
     match e {
         Entry::Nothing => text(b" nothing"),
         Entry::Unknown => text(b" unknown"),
-        Entry::Start(time, supcode, custcode) => started(s, time, supcode, custcode),
+        Entry::Start {
+            time,
+            supcode,
+            custcode,
+        } => started(s, time, supcode, custcode),
         Entry::Put(c) => told(s, outcome(s, c, x)),
     }
 }

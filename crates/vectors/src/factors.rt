@@ -1,4 +1,4 @@
-// The factor, of p, Tb, pb, T and K.
+// The factor of p, Tb, pb, T and K.
 use print::end;
 use print::gives;
 use print::number;
@@ -30,7 +30,7 @@ pub fn run() {
     factor(6_981_104, 28_000, 109_091, 28_000, 19_991);
     factor(1_083_946, 27_315, 109_669, 27_315, 19_999);
     factor(9_023_549, 29_815, 109_881, 29_815, 19_999);
-    // None in particular.
+    // Ordinary ones.
     factor(700_000, 27_315, 101_325, 33_315, 12_345);
     factor(90_000, 28_815, 101_325, 25_315, 9_876);
     // The smallest and the largest.

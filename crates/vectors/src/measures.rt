@@ -100,7 +100,7 @@ pub fn run() {
     measured(1.7976931348623157e308, 1.7976931348623157e308, 0.0, 65_535);
     measured(0.0, 1.7976931348623157e308, -1.7976931348623157e308, 65_535);
     measured(0.0, 0.0, 5e-324, 65_535);
-    // Near a half, where the answer hangs on the order of the operations.
+    // Near a half, where the answer depends on the order of the operations.
     measured(-32.4, 0.00886, -1.45e-07, 7_000);
     measured(-72.1875, 0.00948, -1.5e-07, 15_500);
     measured(-61.4951, 0.00839, -1e-08, 12_700);

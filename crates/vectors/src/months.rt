@@ -1,4 +1,4 @@
-// The calendar: the last second before a day, and the first of it.
+// The calendar: the last second before a day, and the first second of it.
 use print::end;
 use print::flag;
 use print::gives;

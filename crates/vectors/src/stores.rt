@@ -1,4 +1,4 @@
-// The stores: what some number of lines written from fresh gives, where a line stands, and which states of a book are whole.
+// The stores: what a number of lines written from fresh gives, where a line stands, and which states of a book are whole.
 use print::end;
 use print::flag;
 use print::gives;

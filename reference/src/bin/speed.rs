@@ -289,7 +289,7 @@ fn print_row(name: &str, figures: impl Iterator<Item = String>) {
 }
 
 /// The best of the rounds for each side: whatever else the machine does only
-/// slows them down. The sides take turns, so that a slow while meets them all.
+/// slows them down. The sides take turns, so that a slow spell hits them all.
 fn device_figures(
     sides: &mut [Box<dyn Side>],
     workload: &Workload,

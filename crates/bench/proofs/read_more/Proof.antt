@@ -1,4 +1,4 @@
--- `bench::read_more` meets its contract: the read is lent what lies behind the bytes that are held.
+-- `bench::read_more` meets its contract: the read is lent the room behind the bytes that are held.
 -- Assumes nothing.
 use borrow.Author.Needs.{needs}
 use Prim.Native.Nat.{_-_}

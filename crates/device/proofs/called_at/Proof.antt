@@ -1,4 +1,4 @@
--- `device::called_at` meets its contract. Its definition is unfolded at each return, and has there what the calls and the tests on the way say.
+-- `device::called_at` meets its contract. At each return its definition is unfolded, and the calls and tests on the way say the rest.
 -- Assumes nothing.
 use borrow.Author.Needs.{needs}
 use Rattle.device.proofs.called_at.Statement.{statement}

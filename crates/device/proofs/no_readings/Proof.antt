@@ -1,4 +1,4 @@
--- `device::no_readings` meets its contract. Its definition is unfolded at each return, and has there what the calls and the tests on the way say.
+-- `device::no_readings` meets its contract. At each return its definition is unfolded, and the calls and tests on the way say the rest.
 -- Assumes nothing.
 use Rattle.device.specs.Plan.{noReadings}
 use mathlib.Core.Path.{refl}

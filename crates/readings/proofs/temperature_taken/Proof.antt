@@ -1,5 +1,5 @@
 -- Temperature: the mode, then whether the reading failed, then T.Mes by the contract of `measure` and its limits by that of
--- `measured_taken`. The three temperatures handed on fit, so that they arrive as they were.
+-- `measured_taken`. The three temperatures passed on fit their type, so they arrive unchanged.
 -- Assumes nothing.
 use Rattle.readings.specs.Temperature.{temperatureTaken, temperatureRead}
 use borrow.Author.Needs.{needs}

@@ -1,5 +1,4 @@
--- The tests against the two ends are those of the range, and x + x is exact: the answer is that of `Doubled`. `ofBits` and `neg` open the
--- two constants.
+-- The two tests are those of the range, and x + x is exact, so the answer is that of `Doubled`. `ofBits` and `neg` are unfolded to open the two constants.
 -- Assumes nothing.
 use mathlib.Core.Path.{_≡_, sym, ap, _∙_, subst}
 use mathlib.Core.Bool.{Bool, false, not}
@@ -18,7 +17,7 @@ use Rattle.temperature.proofs.nearest_hundredth.Tie as tie
 not-so : {b : Bool} → b ≡ false → T (not b)
 not-so h = subst (λ (a : Bool). T (not a)) (sym h) tt
 
--- an f64 that is owned is one that the format holds
+-- an f64 that the function is given is one of the format
 held : (c : tie.Start) → T (fits binary64 (c .args .x))
 held c = subst T (sym (c .good .0 .1)) tt
 

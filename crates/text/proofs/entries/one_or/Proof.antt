@@ -1,4 +1,4 @@
--- `text::entries::one_or` meets its contract. Its definition is unfolded at each return, and has there what the calls and the tests on the way say.
+-- `text::entries::one_or` meets its contract. At each return its definition is unfolded, and the calls and tests on the way say the rest.
 -- Assumes nothing.
 use Rattle.text.specs.Entries.{oneOr}
 use borrow.Author.Needs.{needs}

@@ -1,4 +1,4 @@
--- `text::words::first_of` meets its contract: what is before the first is what was passed and what is before the first of the rest.
+-- `text::words::first_of` meets its contract: the count is the bytes passed plus those that the rest has before its first.
 -- Assumes nothing.
 use mathlib.Core.Path.{_≡_, sym, ap, _∙_}
 use Prim.Native.Nat.{ℕ, _+_, _-_, _≤_, _<_}

@@ -1,4 +1,4 @@
--- `stores::written` is safe and ends: a step is at least 1, so that what is left to write falls with every turn.
+-- `stores::written` is safe and ends: a step is at least 1, so less is left to write after every turn.
 -- Assumes nothing.
 use Prim.Native.Nat.{_<_}
 use native.Mathlib.Omega.{arith}
