@@ -99,9 +99,9 @@ module _ (time supcode custcode : ℕ) (archive : List ArchiveLine) (log : List 
       (same-below (λ k. getD (sessionAt (end .state) door .cells) k blankCell .staged && not (rightB k (lockAt 1 past) (lockAt 2 past) (lockAt 3 past)))
       (λ k. hasStaged door (k + 1) past && not (rightB k (lockAt 1 past) (lockAt 2 past) (lockAt 3 past))) settingCount
       (λ k l.
-          let p : k + 1 - 1 ≡ k = omega arith in
-          let staged = known door d .tells live (k + 1) (in-table k l) .staged in
-          ap (λ (t : Bool). t && not (rightB k (lockAt 1 past) (lockAt 2 past) (lockAt 3 past))) (rw p at staged)))
+      let p : k + 1 - 1 ≡ k = omega arith in
+      let staged = known door d .tells live (k + 1) (in-table k l) .staged in
+      ap (λ (t : Bool). t && not (rightB k (lockAt 1 past) (lockAt 2 past) (lockAt 3 past))) (rw p at staged)))
 
   -- A COMMIT IS REFUSED BY 10 EXACTLY WHEN, by the history, its session has staged a setting whose lock is missing, where 1, 3 and 4 do not come first
   pub rights-exactly : (door : ℕ)
@@ -125,9 +125,9 @@ module _ (time supcode custcode : ℕ) (archive : List ArchiveLine) (log : List 
       let force = agreed time supcode custcode archive log audit xs .force in
       ext-getD noSetting (asStand a (s .cells)) (listed f settingCount) (stand-length a (s .cells) ∙ force .sized ∙ sym (length-listed f settingCount))
       (λ k l.
-          let i : k < settingCount = rw (stand-length a (s .cells), force .sized) at l in
-          ap settingOf (stood-at door s past (known door d) live a k (force .sized) i ∙ ap (λ (v : Value). lastWritten door (k + 1) v past) (force .tells k i))
-          ∙ sym (getD-listed f settingCount k noSetting i))
+      let i : k < settingCount = rw (stand-length a (s .cells), force .sized) at l in
+      ap settingOf (stood-at door s past (known door d) live a k (force .sized) i ∙ ap (λ (v : Value). lastWritten door (k + 1) v past) (force .tells k i))
+      ∙ sym (getD-listed f settingCount k noSetting i))
 
   -- A COMMIT IS REFUSED BY 12 EXACTLY WHEN the settings as they would stand by the history have a pair out of order, where 1, 3, 4, 10 and 11 do not come first
   pub pairs-exactly : (door : ℕ)
@@ -140,7 +140,7 @@ module _ (time supcode custcode : ℕ) (archive : List ArchiveLine) (log : List 
           let live : Bool = sessionAt (end .state) door .live in
           let cells = sessionAt (end .state) door .cells in
           let (p, q) =
-              passed (unsound end (eqb (length (end .audit)) auditLines)) (noDoor door) (not live)
-              (lockMissing (end .state .core .locks) cells || (staleB cells || false)) e
+          passed (unsound end (eqb (length (end .audit)) auditLines)) (noDoor door) (not live)
+          (lockMissing (end .state .core .locks) cells || (staleB cells || false)) e
           in
           ap (λ (a : List Setting). not (orderedB a)) (stand-same door p (not-false live q))

@@ -1,4 +1,4 @@
--- `state::cell_at` meets its contract. Its definition is unfolded at each return, and has there what the calls and the tests on the way say.
+-- `state::cell_at` meets its contract. At each return its definition is unfolded, and the calls and tests on the way say the rest.
 -- Assumes nothing.
 use lib.ListN.{List·getD-eq-default}
 use mathlib.Core.Path.{sym}

@@ -1,4 +1,4 @@
--- `state::cells_ok` meets its contract. The loop has gone through the numbers below its counter, so that its result is the fold up to there.
+-- `state::cells_ok` meets its contract. After k turns the result is the fold over the numbers below k.
 -- Assumes nothing.
 use Prim.Native.Nat.{_≤_, _-_}
 use Rattle.ground.specs.Below.{allBelow}

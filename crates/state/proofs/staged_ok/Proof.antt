@@ -1,4 +1,4 @@
--- `state::staged_ok` meets its contract. Its definition is unfolded at each return, and has there what the calls and the tests on the way say.
+-- `state::staged_ok` meets its contract. At each return its definition is unfolded, and the calls and tests on the way say the rest.
 -- Assumes nothing.
 use borrow.Author.Needs.{needs}
 use Rattle.state.proofs.staged_ok.Statement.{statement}

@@ -1,4 +1,4 @@
--- `state::whole` meets its contract. Its definition is unfolded at each return, and has there what the calls and the tests on the way say.
+-- `state::whole` meets its contract. At each return its definition is unfolded, and the calls and tests on the way say the rest.
 -- Assumes nothing.
 use Rattle.state.specs.State.{wholeB}
 use borrow.Author.Needs.{needs}
