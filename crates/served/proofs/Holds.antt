@@ -8,6 +8,7 @@ use mathlib.Core.Logic.{_↔_}
 use mathlib.Core.Bool.{true, false}
 use mathlib.Core.List.{List, _∷_, _++_, reverse}
 use native.Mathlib.Omega.{arith}
+use lib.Dec.{leb}
 use lib.ListN.{length, take, getD}
 use Rattle.order.specs.Order.{run, serial, steps, answers}
 use Rattle.calendar.specs.Calendar.{endOfTime}
