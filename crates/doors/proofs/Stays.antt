@@ -26,7 +26,7 @@ use Rattle.state.proofs.Card.{Passes, passes, not-false}
 use Rattle.state.proofs.Sound.{SoundCore, sound-core, Sound, whole-sound, no-session}
 use Rattle.commands.specs.Answers.{answered}
 use Rattle.doors.specs.Doors.{noDoor, noSuchSetting, sessionAt, otherAt, placed, withSession, cellAt, withCell, begun, beginRefusal, beginBy, beginOf, abandonRefusal, abandonBy, abandonOf, readRefusal, markedRead, readAfter, readBy, readOf, writeRefusal, stagedCell, writeAfter, writeBy, writeOf, lockMissing, staleB, asStand, commitRefusal, commitLines, markedBy, overtakenSession, committedCore, committed, endsRefused, refusedCommit, commitOf}
-use Rattle.doors.proofs.Force.{stand-fits, marks-at}
+use Rattle.staging.proofs.Force.{stand-fits, marks-at}
 
 -- ---- a cell of a session
 

@@ -26,6 +26,8 @@ use Rattle.commands.specs.declared.Given.the-variants as given
 use Rattle.commands.specs.declared.Reply.{Reply}
 use Rattle.commands.specs.declared.Answer.{Answer}
 use Rattle.commands.specs.Answers.{plain, giving, answered, Outcome, withAudit}
+unfoldable pub use Rattle.staging.specs.Staging.{cellAt, withCell, begun, markedRead, stagedCell, missingAt, lockMissing, overtakenAt, staleB, standsAt, asStand, changesAmong, audited, markedBy, overtakenBy, overtakenSession}
+pub use Rattle.staging.specs.Staging.{valueSeen, Change, auditLine}
 use Rattle.asked.specs.Asked.{lineGiven}
 
 -- ---- the doors: 1 the keypad, 2 the optical port
@@ -49,18 +51,7 @@ placed c door mine theirs = record { core = c; keypad = cond (eqb door 1) mine t
 unfoldable pub withSession : State → ℕ → Session → State
 withSession s door x = placed (s .core) door x (otherAt s door)
 
--- setting number `setting` of a session
-unfoldable pub cellAt : Session → ℕ → Cell
-cellAt x setting = getD (x .cells) (setting - 1) blankCell
-
-unfoldable pub withCell : Session → ℕ → Cell → Session
-withCell x setting c = record { live = x .live; cells = set (x .cells) (setting - 1) c }
-
 -- ---- begin, abandon; here and below, `sound` says whether the state is whole
-
--- a session as it begins: nothing staged, nothing read
-unfoldable pub begun : Session
-begun = record { live = true; cells = replicate settingCount blankCell }
 
 unfoldable pub beginRefusal : Bool → State → ℕ → ℕ
 beginRefusal sound s door = firstOf ((1, not sound) ∷ (3, noDoor door) ∷ (2, sessionAt s door .live) ∷ [])
@@ -87,13 +78,7 @@ readRefusal sound s door setting = firstOf ((1, not sound) ∷ (3, noDoor door |
 
 -- the session's own staged value if it has one, else the value in force
 unfoldable pub valueRead : State → ℕ → ℕ → Value
-valueRead s door setting =
-    cond (cellAt (sessionAt s door) setting .staged) (cellAt (sessionAt s door) setting .value)
-    (getD (s .core .settings) (setting - 1) noSetting .value)
-
--- either way the setting then counts as read by this session
-unfoldable pub markedRead : Cell → Cell
-markedRead c = record { staged = c .staged; value = c .value; read = true; overtaken = c .overtaken }
+valueRead s door setting = valueSeen (sessionAt s door) (s .core .settings) setting
 
 unfoldable pub readAfter : State → ℕ → ℕ → State
 readAfter s door setting =
@@ -117,10 +102,6 @@ writeRefusal sound s door setting v = firstOf (
     ∷ (9, not (fitsB (setting - 1) v))
     ∷ [])
 
--- a second write of the same setting replaces the first; what was read stays read
-unfoldable pub stagedCell : Cell → Value → Cell
-stagedCell c v = record { staged = true; value = v; read = c .read; overtaken = c .overtaken }
-
 unfoldable pub writeAfter : State → ℕ → ℕ → Value → State
 writeAfter s door setting v =
     withSession s door (withCell (sessionAt s door) setting (stagedCell (cellAt (sessionAt s door) setting) v))
@@ -133,29 +114,6 @@ writeOf s door setting v = writeBy (wholeB s) s door setting v
 
 -- ---- commit
 
--- a lock is missing for a staged setting
-unfoldable pub missingAt : Locks → List Cell → ℕ → Bool
-missingAt l cells k = getD cells k blankCell .staged && not (rightB k (l .cal) (l .sup) (l .cust))
-
-unfoldable pub lockMissing : Locks → List Cell → Bool
-lockMissing l cells = anyBelow (missingAt l cells) settingCount
-
--- a setting counted as read was put in force through the other door after that
-unfoldable pub overtakenAt : List Cell → ℕ → Bool
-overtakenAt cells k = getD cells k blankCell .overtaken
-
-unfoldable pub staleB : List Cell → Bool
-staleB cells = anyBelow (overtakenAt cells) settingCount
-
--- the settings as they would stand after the commit: a staged one at the value staged, any other as it is in force
-unfoldable pub standsAt : Setting → Cell → Setting
-standsAt x c = cond (c .staged) (record { value = c .value }) x
-
-unfoldable pub asStand : List Setting → List Cell → List Setting
-asStand [] cells = []
-asStand (x ∷ a) [] = x ∷ a
-asStand (x ∷ a) (c ∷ cells) = standsAt x c ∷ asStand a cells
-
 unfoldable pub commitRefusal : Bool → State → ℕ → ℕ → ℕ
 commitRefusal sound s door auditLength = firstOf (
     (1, not (sound && eqb auditLength auditLines))
@@ -166,43 +124,10 @@ commitRefusal sound s door auditLength = firstOf (
     ∷ (12, not (orderedB (asStand (s .core .settings) (sessionAt s door .cells))))
     ∷ [])
 
--- a staged setting: its number, the value in force and the value staged
-pub record Change : Type 0 where
-  pub setting : ℕ
-  pub old : Value
-  pub new : Value
-
--- the staged settings among the first n, in order of setting number, also where old and new are equal
-unfoldable pub changesAmong : List Setting → List Cell → ℕ → List Change
-changesAmong a cells zero = []
-changesAmong a cells (suc k) =
-    changesAmong a cells k
-    ++ keep (getD cells k blankCell .staged) (record { setting = k + 1; old = getD a k noSetting .value; new = getD cells k blankCell .value })
-
--- "Audit line: number, time, door, setting, old value, new value."
-abbrev pub auditLine : ℕ → ℕ → ℕ → Change → AuditLine
-auditLine time door number c = record { number = number; time = time; door = door; setting = c .setting; old = c .old; new = c .new }
-
--- one audit line each, numbered as the logbook's are
-unfoldable pub audited : Book → ℕ → ℕ → List Change → List AuditLine
-audited b time door cs = numbered (auditLine time door) (b .number) cs
-
 -- the lines of a commit at a door; the time is that of the last accepted cycle
 unfoldable pub commitLines : State → ℕ → List AuditLine
 commitLines s door =
     audited (s .core .stores .audit) (s .core .measured .time) door (changesAmong (s .core .settings) (sessionAt s door .cells) settingCount)
-
--- the other door's session is marked where it had read a setting that is now put in force
-unfoldable pub markedBy : Cell → Cell → Cell
-markedBy c d = record { staged = d .staged; value = d .value; read = d .read; overtaken = d .overtaken || (d .read && c .staged) }
-
-unfoldable pub overtakenBy : List Cell → List Cell → List Cell
-overtakenBy [] theirs = theirs
-overtakenBy (c ∷ mine) [] = []
-overtakenBy (c ∷ mine) (d ∷ theirs) = markedBy c d ∷ overtakenBy mine theirs
-
-unfoldable pub overtakenSession : Session → Session → Session
-overtakenSession mine theirs = record { live = theirs .live; cells = overtakenBy (mine .cells) (theirs .cells) }
 
 unfoldable pub committedCore : Core → List Cell → ℕ → Core
 committedCore c cells lines = record {

@@ -17,7 +17,7 @@ use Rattle.state.specs.declared.Cell.{Cell}
 use Rattle.state.specs.declared.Session.{Session}
 use Rattle.state.specs.State.{blankCell, sessionB}
 use Rattle.doors.specs.Doors.{withCell, begun, overtakenAt, staleB, markedBy, overtakenBy, overtakenSession}
-use Rattle.doors.proofs.Force.{marks-at}
+use Rattle.staging.proofs.Force.{marks-at}
 use Rattle.doors.proofs.Stays.{SoundCell, begun-sound, with-cell-sound, overtaken-sound}
 
 -- ---- one cell set

@@ -28,7 +28,7 @@ use Rattle.state.proofs.Card.{not-false}
 use Rattle.cycle.specs.Cycle.{cycled, cycledCore}
 use Rattle.panel.specs.Panel.{turned, turnedCore, cleared, startOf, startRefusal}
 use Rattle.doors.specs.Doors.{noDoor, noSuchSetting, sessionAt, cellAt, placed, withSession, standsAt, asStand, committed, committedCore}
-use Rattle.doors.proofs.Force.{stand-length, stand-at}
+use Rattle.staging.proofs.Force.{stand-length, stand-at}
 use Rattle.runs.specs.Rows.{rowsOf, refusedBy}
 use Rattle.runs.specs.Run.{Step, Cycle, Turn, Clear, Ask, Call, Commit, Begin, Read, Write, Abandon, World, Reply, numberOf, step, corrector, started, Body, bodyOf}
 use Rattle.runs.specs.History.{History, history}

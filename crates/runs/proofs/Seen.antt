@@ -26,7 +26,7 @@ use Rattle.state.specs.State.{blankCell}
 use Rattle.state.specs.Card.{firstOf}
 use Rattle.state.proofs.Card.{not-false}
 use Rattle.doors.specs.Doors.{noDoor, noSuchSetting, sessionAt, cellAt, valueRead, asStand, missingAt, lockMissing, staleB}
-use Rattle.doors.proofs.Force.{stand-length}
+use Rattle.staging.proofs.Force.{stand-length}
 use Rattle.commands.specs.declared.Given.the-variants as given
 use Rattle.runs.specs.Exactly.{earlier}
 use Rattle.runs.specs.Rows.{rowsOf, unsound}

@@ -29,7 +29,7 @@ use Rattle.state.specs.declared.Session.{Session}
 use Rattle.state.specs.State.{blankCell, noSession, sessionB, wholeB, fresh}
 use Rattle.state.specs.Card.{firstOf}
 use Rattle.state.proofs.Sound.{SoundCore, whole-sound, fresh-whole, no-session}
-use Rattle.doors.proofs.Force.{unstaged-stands}
+use Rattle.staging.proofs.Force.{unstaged-stands}
 use Rattle.doors.proofs.Stays.{session-each, read-sound, staged-sound}
 use Rattle.panel.specs.Panel.{startRefusal, startOf}
 use Rattle.doors.specs.Doors.{noSuchSetting, cellAt, withCell, begun, markedRead, stagedCell, lockMissing, staleB, asStand, overtakenSession, overtakenBy, committedCore, endsRefused}

@@ -29,7 +29,7 @@ use Rattle.state.proofs.Card.{not-false}
 use Rattle.cycle.specs.Cycle.{cycled}
 use Rattle.panel.specs.Panel.{turned, cleared, startOf, startRefusal}
 use Rattle.doors.specs.Doors.{noDoor, noSuchSetting, sessionAt, otherAt, placed, withSession, cellAt, withCell, begun, markedRead, readAfter, stagedCell, writeAfter, lockMissing, overtakenAt, staleB, markedBy, overtakenSession, committed, endsRefused, refusedCommit}
-use Rattle.doors.proofs.Force.{marks-at}
+use Rattle.staging.proofs.Force.{marks-at}
 use Rattle.runs.specs.Exactly.{earlier}
 use Rattle.runs.specs.Rows.{rowsOf, unsound, refusedBy}
 use Rattle.runs.specs.Run.{Step, Cycle, Turn, Clear, Ask, Call, Commit, Begin, Read, Write, Abandon, World, Reply, numberOf, step, corrector, started}
