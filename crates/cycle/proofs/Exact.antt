@@ -31,7 +31,7 @@ use Rattle.state.proofs.Sound.{whole-sound}
 use Rattle.commands.specs.declared.Brought.{Brought}
 use Rattle.commands.specs.Answers.{plain, Outcome, withBoth}
 use Rattle.cycle.specs.Cycle.{naturalAt, wholeAt, coefficientsIn, temperatureFor, pressureFor, kFor, kelvinFor, alarmsFor, factorFor, amountsFor, cycleRefusal, cycledCore, cycled, cycleOf}
-use Rattle.cycle.specs.Plan.{factorPlanned, amountsPlanned}
+use Rattle.measuring.specs.Plan.{factorPlanned, amountsPlanned}
 
 -- ---- what the settings let a cycle take
 
