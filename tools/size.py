@@ -18,7 +18,7 @@ Written by `tools/size.py`; run it again after a change of the sources. The crat
 
 A line counts if it is neither empty nor only a comment. Code is `src`, definitions are `specs`, proof is `proofs`. "Walks" are that part of the proof which
 tools/walk.py writes (functions over lent stores). An edit is a deliberate mistake under `must-fail` that the prover must refuse. Seconds are the time of the crate's
-proof in one run of the gate from nothing, with up to six crates at a time. Memory is the peak of the prover's process. "-" means not measured. The code
+proof in one run of the gate from nothing, with up to ten crates at a time. Memory is the peak of the prover's process. "-" means not measured. The code
 of `calendar` includes the table of 1,201 day numbers, one a line.
 
 """
