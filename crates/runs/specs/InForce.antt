@@ -15,7 +15,7 @@ use Rattle.runs.specs.Stale.{Deed, nothing, begins, commits, reads, writ
 
 -- ---- staged
 
--- the value that a write of the setting at the door leaves, and any other deed v
+-- what a deed leaves staged of the setting: a write of it at the door its value, any other deed what was staged before, v
 abbrev pub writtenBy : ℕ → ℕ → Deed → Value → Value
 writtenBy door setting nothing v = v
 writtenBy door setting (begins d) v = v

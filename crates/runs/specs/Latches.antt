@@ -34,7 +34,7 @@ foundIn (x ∷ past) = cond (done x) (onCycle (λ r. alarmsFor (settingsIn past)
 
 -- ---- latched: set when present, and stays until a Clear finds the alarm not present
 
--- the latch after an accepted step, and before it l
+-- the latch after an accepted step; l is the latch before it
 abbrev pub latchAfter : Alarm → Step → History → Bool → Bool
 latchAfter a (Cycle r) past l = flagOf a (alarmsFor (settingsIn past) r) || l
 latchAfter a (Turn turn) past l = l

@@ -27,8 +27,8 @@ use Rattle.runs.specs.Locks.{lockAt}
 use Rattle.runs.specs.Sums.{Vm, VmD, Vb, VbD, sumIn}
 use Rattle.runs.specs.Latches.{foundIn}
 
--- A store: how many lines it can hold, what the state says of it, what is in it, and which lines an accepted step writes, oldest first. They go by
--- the time of the start, the number of lines written before, the step, and the history before it.
+-- A store: how many lines it can hold, what the state says of it, what is in it, and the lines that an accepted step writes, oldest first. Those
+-- depend on the time of the start, the number of lines written before, the step, and the history before it.
 pub record Shelf : Type 1 where
   pub Line : Type 0
   pub blank : Line

@@ -22,7 +22,7 @@ onTurn f d (Ask question) = d
 onTurn f d (Call door act) = d
 onTurn f d (Commit door) = d
 
--- whether the lock is open after an accepted step, by whether it was before it: only a turn of this lock matters
+-- whether the lock is open after an accepted step, given whether it was open before: only a turn of this lock matters
 abbrev pub lockBy : ℕ → Step → Bool → Bool
 lockBy lock x before = onTurn (λ turn. cond (eqb (lockOf turn) lock) (opensIt turn) before) before x
 

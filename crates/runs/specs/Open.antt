@@ -9,7 +9,7 @@ use Rattle.doors.specs.Doors.{endsRefused}
 use Rattle.runs.specs.Run.{Step, Cycle, Turn, Clear, Ask, Call, Commit, Begin, Read, Write, Abandon, numberOf}
 use Rattle.runs.specs.History.{History}
 
--- whether a session is open at the door after a step that had the number n, by whether one was before it
+-- whether a session is open at the door after a step that had the number n, given whether one was open before
 abbrev pub openAfter : ℕ → Step → ℕ → Bool → Bool
 openAfter door (Cycle r) n before = before
 openAfter door (Turn turn) n before = before
@@ -21,7 +21,7 @@ openAfter door (Commit d) n before = cond ((eqb n 0 || endsRefused n) && eqb d d
 openAfter door (Call d (Read setting)) n before = before
 openAfter door (Call d (Write setting v)) n before = before
 
--- newest first, a begin that was done at the door comes before anything that ended a session there
+-- looking back from now, an accepted begin at the door comes before anything that ended a session there
 abbrev pub openAt : ℕ → History → Bool
 openAt door [] = false
 openAt door (x ∷ past) = openAfter door (x .0) (numberOf (x .1)) (openAt door past)

@@ -33,8 +33,8 @@ notWhole w = not (wholeB (w .state))
 
 -- ---- the questions
 
--- What a question comes to, of all that is no session: whether the stores that it is lent have their lengths, its rows after the first, and
--- what it gives.
+-- What a question comes to; it looks at no session. Whether the stores that it is lent have their lengths, its rows after the first, and what it
+-- gives.
 pub record Asked : Type 0 where
   pub lent : Bool
   pub rows : Rows

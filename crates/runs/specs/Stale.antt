@@ -65,7 +65,7 @@ writesAt door setting (writes d k v) = eqb d door && eqb k setting
 
 -- ---- the session at a door
 
--- since the session at the door was opened, something happened: p says of a deed and of the history before it whether it did
+-- something happened since the session at the door was opened: p says of a deed, and of the history before it, whether that was it
 abbrev pub since : ℕ → (Deed → History → Bool) → History → Bool
 since door p [] = false
 since door p (x ∷ past) = cond (beginsAt door (deed x)) false (p (deed x) past || since door p past)

@@ -133,8 +133,8 @@ fn float_row(factory: f64, lock: u8) -> Row
     }
 }
 
-// The table: lowest and highest value, factory value, lock; of a coefficient the last two. By a `match`, since a constant array is laid
-// out anew wherever it is named.
+// The table: lowest and highest value, factory value and lock; a coefficient has only the last two. It is a `match` and not an array, because a
+// constant array would be copied to the stack at each use.
 pub fn row_of(k: usize) -> Row
     ensures { λ r. ⌜ r ≡ rowOf k ⌝ }
 {

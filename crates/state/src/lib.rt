@@ -32,9 +32,8 @@ pub struct Locks {
     pub custcode: u32,
 }
 
-// One setting, as a session sees it: what it has staged, if it has; whether it has read it; and whether it was put in force through the
-// other door after that. The fields lie in memory in this order, and with the flags together a cell takes 24 bytes and not 32: a state is copied
-// at every command.
+// What a session knows of one setting: the value staged, if there is one; whether it was read; whether it was put in force through the other door
+// after that. The flags stand together, so that a cell takes 24 bytes and not 32: the state is copied at every command.
 pub struct Cell {
     pub value: settings::Value,
     pub staged: bool,
@@ -47,7 +46,7 @@ pub struct Session {
     pub cells: [Cell; settings::COUNT],
 }
 
-// What a cycle measures, and nothing else changes.
+// What a cycle measures. No other command changes it.
 pub struct Measured {
     pub time: u64,
     pub month: u64,
@@ -276,7 +275,7 @@ fn touched_ok(live: bool, k: usize, c: Cell) -> bool
     ground::both(e, d)
 }
 
-// At every command 42 cells are tested, and in most nothing is staged or read: then only the last mark is left to look at.
+// 42 cells are tested each time, and in most nothing is staged or read: for these only the last mark is looked at.
 fn cell_ok(live: bool, k: usize, c: Cell) -> bool
     ensures { λ r. ⌜ r ≡ cellB live k c ⌝ }
 {
