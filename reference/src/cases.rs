@@ -1,7 +1,7 @@
 //! The kept cases: scripts with the answers that the paper gives.
 //!
 //! `NAME.txt` is a script and `NAME.out` its answers, one a line and written
-//! by hand from document 01. In the answers a line that begins with `#` says
+//! by hand from the documents. In the answers a line that begins with `#` says
 //! why they are so and is not compared.
 
 use std::io;

@@ -5,8 +5,8 @@ use std::fmt::Write;
 
 use crate::command::{obey, Command};
 use crate::device::{
-    factor, measured_temperature, temperature_float, Counters, Device, Value, ALARM_K, ALARM_P,
-    ALARM_T, ARCHIVE_LINES, AUDIT_LINES, KELVIN, LOG_LINES,
+    factor, measured_temperature, temperature_float, Counters, Device, Totals, Value, ALARM_K,
+    ALARM_P, ALARM_T, ARCHIVE_LINES, AUDIT_LINES, KELVIN, LOG_LINES,
 };
 use crate::lines::{read_line, write_answer, Line};
 use crate::script::Script;
@@ -71,6 +71,8 @@ enum Event {
     VmDisturbedRollover,
     VbRollover,
     VbDisturbedRollover,
+    VmTotalRollover,
+    VbTotalRollover,
     OneMonth,
     FewMonths,
     ManyMonths,
@@ -98,7 +100,7 @@ enum Event {
     StartRefusedInUse,
 }
 
-const EVENTS: [&str; 42] = [
+const EVENTS: [&str; 44] = [
     "pressure alarm came",
     "temperature alarm came",
     "K alarm came",
@@ -116,6 +118,8 @@ const EVENTS: [&str; 42] = [
     "VmD rolled over",
     "Vb rolled over",
     "VbD rolled over",
+    "VmT rolled over while neither part did",
+    "VbT rolled over while neither part did",
     "one month crossed",
     "2 to 15 months crossed at once",
     "16 to 999 months crossed at once",
@@ -303,11 +307,20 @@ impl Coverage {
     }
 
     fn observe_counters(&mut self, before: &Before, after: &Device) {
+        // An amount is below the modulus, so that a number falls only when it
+        // rolls over.
         let (old, new) = (&before.counters, &after.counters);
-        self.saw_if(new.vm < old.vm, Event::VmRollover);
-        self.saw_if(new.vm_disturbed < old.vm_disturbed, Event::VmDisturbedRollover);
-        self.saw_if(new.vb < old.vb, Event::VbRollover);
-        self.saw_if(new.vb_disturbed < old.vb_disturbed, Event::VbDisturbedRollover);
+        let vm = new.vm < old.vm;
+        let vm_disturbed = new.vm_disturbed < old.vm_disturbed;
+        let vb = new.vb < old.vb;
+        let vb_disturbed = new.vb_disturbed < old.vb_disturbed;
+        self.saw_if(vm, Event::VmRollover);
+        self.saw_if(vm_disturbed, Event::VmDisturbedRollover);
+        self.saw_if(vb, Event::VbRollover);
+        self.saw_if(vb_disturbed, Event::VbDisturbedRollover);
+        let (old, new) = (&before.totals, &after.totals);
+        self.saw_if(new.vm < old.vm && !vm && !vm_disturbed, Event::VmTotalRollover);
+        self.saw_if(new.vb < old.vb && !vb && !vb_disturbed, Event::VbTotalRollover);
     }
 
     fn observe_months(&mut self, before: &Before, after: &Device) {
@@ -408,6 +421,7 @@ fn half_factor(device: &Device, p: Option<u64>) -> bool {
 struct Before {
     month: u32,
     counters: Counters,
+    totals: Totals,
     present: u8,
     latched: u8,
     locks: [bool; 3],
@@ -446,6 +460,7 @@ impl Before {
         Before {
             month: device.month,
             counters: device.counters,
+            totals: device.totals,
             present: device.present,
             latched: device.latched,
             locks: device.locks,
@@ -481,6 +496,35 @@ mod tests {
                 coverage.answer(&random_script(&mut rng));
             }
             assert_eq!(coverage.missing(), Vec::<String>::new(), "seed {seed}");
+        }
+    }
+
+    /// The long script alone brings each total to its modulus exactly, with
+    /// both parts in between, and asks for a report there. Its counts do not
+    /// hang on the seed.
+    #[test]
+    fn the_long_script_lands_both_totals_on_their_modulus() {
+        for seed in [0, 1, 2, 3, 1_000_003, u64::MAX] {
+            let mut coverage = Coverage::new();
+            let script = long_script(&mut Rng::new(seed));
+            let (mut vm_landed, mut vb_landed) = (false, false);
+            for (place, answer) in coverage.answer(&script) {
+                if script.lines[place] != b"report" {
+                    continue;
+                }
+                let answer = String::from_utf8(answer).expect("an answer of plain characters");
+                let numbers: Vec<u64> =
+                    answer.split(' ').map(|word| word.parse().expect("a number")).collect();
+                let [vm, vm_disturbed, vb, vb_disturbed, vm_total, vb_total] = numbers[2..8] else {
+                    panic!("seed {seed}: {answer}");
+                };
+                vm_landed |= vm_total == 0 && vm > 0 && vm_disturbed > 0;
+                vb_landed |= vb_total == 0 && vb > 0 && vb_disturbed > 0;
+            }
+            assert!(vm_landed && vb_landed, "seed {seed}");
+            for event in [Event::VmTotalRollover, Event::VbTotalRollover] {
+                assert_ne!(coverage.events[event as usize], 0, "seed {seed}");
+            }
         }
     }
 

@@ -10,7 +10,7 @@ use crate::calendar::{first_second, month_of_time};
 use crate::command::{obey, Command};
 use crate::device::{
     temperature_float, Cycle, Device, Range, Value, ARCHIVE_LINES, AUDIT_LINES, LOG_LINES, N_LIMIT,
-    RULES, SETTINGS, TIME_LIMIT, VM_MODULUS,
+    RULES, SETTINGS, TIME_LIMIT, VB_MODULUS, VM_MODULUS,
 };
 use crate::lines::{read_line, write_command, Line, LONGEST_LINE};
 use crate::script::Script;
@@ -116,22 +116,29 @@ pub fn giant_script(rng: &mut Rng) -> Script {
     writer.finish()
 }
 
-/// One long script for what no random one reaches: both counters of both
-/// units roll over, and the line numbers of both books pass 65,535.
+/// One long script for what no random one reaches: Vm, VmD, Vb, VmT and VbT
+/// roll over, the totals also where neither part does, and the line numbers of
+/// both books pass 65,535. No number of pulses and no reading hangs on the
+/// seed, so every seed reaches all of this.
 pub fn long_script(rng: &mut Rng) -> Script {
     let mut writer = Writer::new(rng);
     writer.no_noise = true;
+    writer.vb_total_lands();
+    // This start puts the totals back to 0 as well.
     let codes = [writer.rng.any() as u32, writer.rng.any() as u32];
     writer.say(Command::Start { time: 0, code2: codes[0], code3: codes[1] });
     writer.say(Command::Open { lock: 1, code: 0 });
     writer.put_in_force(1, &[(1, Value::Whole(4)), (6, Value::Whole(1))]);
     // 60,000,000 litres a cycle, every second one disturbed, and six logbook
     // lines every two cycles. Vm lands on its modulus exactly and Vb, at a
-    // factor of 1, on its own; VmD passes over it.
+    // factor of 1, on its own; VmD passes over it. Half way there, with both
+    // parts near the middle, VmT lands on its modulus, and a few hundred cycles
+    // later VbT passes over its own.
     for round in 0..33_400_u64 {
         let time = writer.model.time + writer.rng.below(10_000);
         let disturbed = round % 2 == 1;
-        let room = (VM_MODULUS - writer.model.counters.vm) / 100_000;
+        let nearest = writer.model.counters.vm.max(writer.model.totals.vm);
+        let room = (VM_MODULUS - nearest) / 100_000;
         writer.say(Command::Cycle(Cycle {
             time,
             n: if disturbed { N_LIMIT } else { N_LIMIT.min(room) },
@@ -608,6 +615,35 @@ impl<'a> Writer<'a> {
         self.back_to_factory(2, &[1, 2, 3, 5, 8, 14, 15, 16]);
     }
 
+    /// VbT lands on its modulus exactly while Vb and VbD are about half way.
+    fn vb_total_lands(&mut self) {
+        self.open_lock(1);
+        self.put_in_force(
+            1,
+            &[
+                (1, Value::Whole(4)),
+                (2, Value::Whole(100_000)),
+                (5, Value::Whole(0)),
+                (8, Value::Whole(10_000_000)),
+                (14, Value::Whole(10_000_000)),
+                (15, Value::Whole(0)),
+                (16, Value::Whole(5_000)),
+            ],
+        );
+        // The factor is 200, measured or not, so that a pulse of 100,000 litres
+        // is 2 x 10^12 and 50,000 pulses are 10^17. Every second cycle is
+        // disturbed, and so is the one that lands, the 84th.
+        let mut left = 50_000;
+        let mut disturbed = false;
+        while left > 0 {
+            let n = N_LIMIT.min(left);
+            left -= n;
+            self.pressure_cycle(n, |_| (!disturbed).then_some(10_000_000));
+            self.say(Command::Report);
+            disturbed = !disturbed;
+        }
+    }
+
     /// Factors that are exactly a half before rounding: p is then counted in
     /// half hundred-thousandths.
     fn halves(&mut self) {
@@ -1001,12 +1037,16 @@ impl<'a> Writer<'a> {
         self.model.sessions[door as usize - 1].cells[setting - 1] as i64
     }
 
+    /// Whether a counter or a total is within two large cycles of a rollover,
+    /// at a factor of about 1. The totals are seen in a report alone.
     fn near_rollover(&self) -> bool {
-        let counters = &self.model.counters;
-        [counters.vm, counters.vm_disturbed].into_iter().any(|litres| {
-            let step = 120_000_000;
-            litres < step || litres + step >= VM_MODULUS
-        })
+        let (counters, totals) = (&self.model.counters, &self.model.totals);
+        let step = 120_000_000;
+        let near = |sum: u64, step: u64, modulus: u64| sum < step || sum + step >= modulus;
+        near(counters.vm, step, VM_MODULUS)
+            || near(counters.vm_disturbed, step, VM_MODULUS)
+            || near(totals.vm, step, VM_MODULUS)
+            || near(totals.vb, 100_000 * step, VB_MODULUS)
     }
 
     /// A value that the setting takes.

@@ -1,8 +1,9 @@
-//! The corrector of document 01 as a plain Rust program.
+//! The corrector of document 01, with request One of document 02, as a plain
+//! Rust program.
 //!
-//! It was written from document 01 and not from the Rattle code, so that the
-//! two can be compared: a slip would have to be made twice, in two languages
-//! and in the same way, to stay unseen.
+//! It was written from these documents and not from the Rattle code, so that
+//! the two can be compared: a slip would have to be made twice, in two
+//! languages and in the same way, to stay unseen.
 
 pub mod bench;
 pub mod calendar;

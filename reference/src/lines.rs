@@ -204,7 +204,7 @@ pub fn write_answer(answer: &Answer, out: &mut Vec<u8>) {
         }
         Done::Report(report) => {
             words.number(report.time).counters(report.counters);
-            words.number(report.vm_total).number(report.vb_total);
+            words.number(report.totals.vm).number(report.totals.vb);
             words.flags(report.alarms).flags(report.latches).flags(report.locks);
         }
         Done::Archive(line) => {

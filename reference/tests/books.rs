@@ -223,3 +223,16 @@ fn disturbed_amounts() {
         ("report", "0 0 400 200 40000000 18958800 600 58958800 0 0 0 0 1 0 0 0 0"),
     ]);
 }
+
+/// An archive line has the four counters and no total, although the state
+/// keeps both beside them.
+#[test]
+fn no_total_in_an_archive_line() {
+    tell(&[
+        ("cycle 0 1 5120 101325 -", "0"),
+        ("cycle 0 2 - 101325 -", "0"),
+        ("cycle 2678400 0 5120 101325 -", "0"),
+        ("archive 0", "0 0 100 200 10000000 18958800"),
+        ("report", "0 2678400 100 200 10000000 18958800 300 28958800 0 0 0 0 1 0 0 0 0"),
+    ]);
+}

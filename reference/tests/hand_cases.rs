@@ -1,9 +1,11 @@
-//! The twelve cases by hand, H1 to H12.
+//! The twelve cases by hand, H1 to H12, and the rollover of the totals.
 
 mod common;
 
 use common::{tell, Teller};
-use corrector_reference::device::{factor, measured_temperature, temperature_float, KELVIN};
+use corrector_reference::device::{
+    factor, measured_temperature, temperature_float, Counters, Cycle, Device, Totals, KELVIN,
+};
 
 fn kelvin(t: i64) -> u64 {
     (t + KELVIN) as u64
@@ -47,6 +49,24 @@ fn h5_pressure_below_its_limit() {
     ]);
 }
 
+/// H5 again with the totals as the state keeps them.
+#[test]
+fn h5_with_its_totals() {
+    let after = |p: u64| {
+        let mut device = Device::new();
+        let cycle = Cycle { time: 60, n: 10, raw: Some(7_680), p: Some(p), k: None };
+        device.cycle(&cycle).expect("an accepted cycle");
+        let report = device.report().expect("a report");
+        (report.counters, report.totals)
+    };
+    // One side gains all, and the totals gain the same.
+    let disturbed =
+        Counters { vm_disturbed: 1_000, vb_disturbed: 93_178_000, ..Counters::default() };
+    assert_eq!(after(89_999), (disturbed, Totals { vm: 1_000, vb: 93_178_000 }));
+    let main = Counters { vm: 1_000, vb: 82_763_000, ..Counters::default() };
+    assert_eq!(after(90_000), (main, Totals { vm: 1_000, vb: 82_763_000 }));
+}
+
 #[test]
 fn h6_nearest_and_limits() {
     assert_eq!(measured_temperature(-0.5), Some(-1));
@@ -84,6 +104,47 @@ fn h7_rollover() {
         ("cycle 0 1 5120 101325 -", "0"),
         ("report", "0 0 0 0 0 0 0 0 0 0 0 0 0 0 1 0 0"),
     ]);
+}
+
+/// Vm at 600,000,000,000 and VmD one pulse short of 400,000,000,000, through
+/// the front door. The factor is 1 throughout, so the base counters have the
+/// same digits and five more. One pulse then rolls both totals over while none
+/// of the four counters does.
+#[test]
+fn totals_roll_over_while_neither_part_does() {
+    for (last, report) in [
+        (
+            "cycle 0 1 5120 101325 -",
+            "0 0 600000000100 399999999900 60000000010000000 39999999990000000 0 0 \
+             0 0 0 1 0 0 1 0 0",
+        ),
+        (
+            "cycle 0 1 5120 - -",
+            "0 0 600000000000 400000000000 60000000000000000 40000000000000000 0 0 \
+             1 0 0 1 0 0 1 0 0",
+        ),
+    ] {
+        let mut teller = Teller::new();
+        teller.done(&["open 1 0", "begin 1", "write 1 1 w 4", "commit 1"]);
+        for _ in 0..10_000 {
+            teller.done(&["cycle 0 600 5120 101325 -"]);
+        }
+        for _ in 0..6_666 {
+            teller.done(&["cycle 0 600 5120 - -"]);
+        }
+        teller.done(&["cycle 0 399 5120 - -"]);
+        teller.done(&["begin 1", "write 1 1 w 1", "commit 1"]);
+        teller.done(&["cycle 0 600 5120 - -", "cycle 0 399 5120 - -"]);
+        teller.tell(&[
+            (
+                "report",
+                "0 0 600000000000 399999999900 60000000000000000 39999999990000000 \
+                 999999999900 99999999990000000 1 0 0 1 0 0 1 0 0",
+            ),
+            (last, "0"),
+            ("report", report),
+        ]);
+    }
 }
 
 #[test]
