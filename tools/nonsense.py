@@ -4,7 +4,7 @@
     python3 tools/nonsense.py > crates/nonsense/stdout
 
 Nothing here comes from the program or from its crates: which states are whole, and which refusals apply to a command, is worked out again
-from document 01. The trials are those of crates/nonsense/src, in the same order. At the end it is asked that every two reasons that can
+from documents 01 and 02. The trials are those of crates/nonsense/src, in the same order. At the end it is asked that every two reasons that can
 hold together were tried together, on each command.
 """
 import struct
@@ -82,7 +82,7 @@ class State:
 
     def __init__(self, doors=1):
         self.time, self.month = 100_000_000, 38
-        self.counters = [LITRES - 1, 5_000, BASE_UNITS - 1, 700]
+        self.counters = [LITRES - 1, 5_000, 4_999, BASE_UNITS - 1, 700, 699]
         self.alarms, self.latches = [True, False, False], [True, True, False]
         self.open, self.codes = {1}, {2: 1234, 3: 98_765}
         self.settings = {n: row[1] for n, row in TABLE.items()}
@@ -148,12 +148,18 @@ def session_whole(x):
     return all(fits(k, v) for k, v in x.staged.items()) and x.overtaken <= x.read and (x.live or not (x.staged or x.read))
 
 
+def counters_whole(vm, vmd, vmt, vb, vbd, vbt):
+    """Main and disturbed are below the rollover, and each kept total is their sum, less the rollover where it is reached."""
+    one = lambda main, disturbed, total, rollover: main < rollover and disturbed < rollover and total in (main + disturbed, main + disturbed - rollover) and 0 <= total < rollover
+    return one(vm, vmd, vmt, LITRES) and one(vb, vbd, vbt, BASE_UNITS)
+
+
 def whole(s):
     return (
         s.time < END_OF_TIME
         and all(fits(k, v) for k, v in s.settings.items())
         and in_order(s.settings)
-        and all(c < most for c, most in zip(s.counters, (LITRES, LITRES, BASE_UNITS, BASE_UNITS)))
+        and counters_whole(*s.counters)
         and all(latched or not present for present, latched in zip(s.alarms, s.latches))
         and s.month == month_of(s.time)
         and all(written(LINES[name], getattr(s, name)) for name in LINES)
@@ -386,17 +392,32 @@ AUDIT_TRAILS = [
 ]
 
 
+def amounts():
+    """Each part at its highest, and past it; the totals are main plus disturbed under the rollover all the same."""
+    rollovers = (LITRES, LITRES, BASE_UNITS, BASE_UNITS)
+    parts = [[r - 1 for r in rollovers]]
+    parts += [[r if i == k else 0 for i, r in enumerate(rollovers)] for k in range(4)]
+    parts += [[MOST if i == k else 0 for i in range(4)] for k in range(4)]
+    return [[vm, vmd, (vm + vmd) % LITRES, vb, vbd, (vb + vbd) % BASE_UNITS] for vm, vmd, vb, vbd in parts]
+
+
+def totals():
+    """Totals that differ from main plus disturbed, and then totals that are just at their rollover."""
+    vm, vmd, vmt, vb, vbd, vbt = State().counters
+    wrong = [(vmt + 1, vbt), (vmt - 1, vbt), (vmt, vbt + 1), (vmt, vbt - 1), (vm + vmd, vbt), (vmt, vb + vbd), (vm, vbt), (vmt, vb), (0, vbt), (vmt, 0)]
+    wrong += [(MOST, vbt), (vmt, MOST), (vbt, vmt), (vmt + 1, vbt + 1)]
+    litres, base = (6 * LITRES // 10, 4 * LITRES // 10), (6 * BASE_UNITS // 10, 4 * BASE_UNITS // 10)
+    at = [[*litres, total, 0, 0, 0] for total in (LITRES, 0)] + [[0, 0, 0, *base, total] for total in (BASE_UNITS, 0)]
+    return [[vm, vmd, a, vb, vbd, b] for a, b in wrong] + at
+
+
 def clauses():
     every("whole: one session", State())
     every("whole: two sessions", State(2))
     for time, month in TIMES:
         every("time %d %d" % (time, month), State().but(time=time, month=month))
-    rollovers = (LITRES, LITRES, BASE_UNITS, BASE_UNITS)
-    amounts = [[r - 1 for r in rollovers]]
-    amounts += [[r if i == k else 0 for i, r in enumerate(rollovers)] for k in range(4)]
-    amounts += [[MOST if i == k else 0 for i in range(4)] for k in range(4)]
-    for a in amounts:
-        every("counters %d %d %d %d" % tuple(a), State().but(counters=a))
+    for a in amounts() + totals():
+        every("counters %d %d %d %d %d %d" % tuple(a), State().but(counters=a))
     flags = lambda three: " ".join("yes" if b else "no" for b in three)
     present = [[True] * 3] + [[i == k for i in range(3)] for k in range(3)]
     latches = [[True] * 3] + [[i != k for i in range(3)] for k in range(3)]

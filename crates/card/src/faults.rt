@@ -69,7 +69,7 @@ fn of_the_call() {
     sized(
         NOT_WHOLE,
         b"A store lent to the call has not its exact length (",
-        b", or the state is not whole",
+        b", or the state is not whole (a kept total VmT or VbT that is not main plus disturbed, for one)",
         b"Stop: the box's memory or the program that calls it is damaged. Change nothing, seal the box, call the workshop",
     );
     plain(

@@ -1,18 +1,19 @@
 -- An answer that passes a row's test equals the answer that the row gives.
 -- Assumes nothing.
-use mathlib.Core.Path.{_≡_, refl, sym, ap}
+use mathlib.Core.Path.{_≡_, refl, ap}
 use mathlib.Core.Bool.{Bool, true, false, _&&_}
 use mathlib.Core.List.{List, [], _∷_}
 use Prim.Native.Nat.{ℕ}
 use lib.Dec.{T, eqb, eqb→eq}
 use lib.IntN.{ℤ, pos, negsuc}
+use lib.ListN.{getD}
 use Rattle.ground.proofs.Flags.{and-left, and-right, to-T, of-T}
 use Rattle.units.specs.Units.{litresOf, baseOf}
 use Rattle.state.specs.declared.Alarms.{Alarms}
 use Rattle.state.specs.declared.Counters.{Counters}
 use Rattle.temperature.specs.declared.Measured.{Measured}
 use Rattle.temperature.specs.declared.Measured.the-variants.{Failed, Hundredths}
-use Rattle.cases.specs.Cases.{sameWhole, sameMeasured, sameNumbers, sameFlag, sameAlarms, sameCounters}
+use Rattle.cases.specs.Cases.{sameWhole, sameMeasured, sameNumbers, sameFlag, sameAlarms, sixOf, sameCounters}
 
 pub same-whole : (a b : ℤ) → T (sameWhole a b) → a ≡ b
 unfolding sameWhole
@@ -64,18 +65,17 @@ same-alarms a p t k h =
     let g : a .k ≡ k = same-flag (a .k) k (right (one && two) three h) in
     rw (e, f, g)
 
-pub same-counters : (c : Counters) (vm vmd vb vbd : ℕ) → T (sameCounters c vm vmd vb vbd)
-    → c ≡ record { vm = litresOf vm; vmd = litresOf vmd; vb = baseOf vb; vbd = baseOf vbd }
-unfolding sameCounters
-same-counters c vm vmd vb vbd h =
-    let one : Bool = eqb (c .vm .0) vm in
-    let two : Bool = eqb (c .vmd .0) vmd in
-    let three : Bool = eqb (c .vb .0) vb in
-    let four : Bool = eqb (c .vbd .0) vbd in
-    let most : T (one && two && three) = left (one && two && three) four h in
-    let both : T (one && two) = left (one && two) three most in
-    let e : c .vm .0 ≡ vm = eqb→eq (c .vm .0) vm (left one two both) in
-    let f : c .vmd .0 ≡ vmd = eqb→eq (c .vmd .0) vmd (right one two both) in
-    let g : c .vb .0 ≡ vb = eqb→eq (c .vb .0) vb (right (one && two) three most) in
-    let i : c .vbd .0 ≡ vbd = eqb→eq (c .vbd .0) vbd (right (one && two && three) four h) in
-    rw (sym e, sym f, sym g, sym i)
+-- the counters that six numbers give
+unfoldable given : List ℕ → Counters
+given xs = record {
+  vm = litresOf (getD xs 0 0);
+  vmd = litresOf (getD xs 1 0);
+  vmt = litresOf (getD xs 2 0);
+  vb = baseOf (getD xs 3 0);
+  vbd = baseOf (getD xs 4 0);
+  vbt = baseOf (getD xs 5 0);
+}
+
+pub same-counters : (c d : Counters) → T (sameCounters c d) → c ≡ d
+unfolding sameCounters sixOf given
+same-counters c d t = ap given (same-numbers (sixOf c) (sixOf d) t)

@@ -18,12 +18,13 @@ use Rattle.readings.specs.Kelvin.{kelvinOf}
 use Rattle.ring.specs.Ring.{ringAfter, bookAfter, onFrom, slotAfter, lineNumber, advancedRing, advancedBook, ringB, numberB, bookB}
 use Rattle.ring.specs.Store.{listed, stored, written, heldLines}
 use Rattle.notes.specs.Notes.{noted, numbered, logged}
-use Rattle.state.specs.State.{noSession, noAlarm, nothingCounted, shutLocks, freshCore, fresh, countersB, latchedB, storesB, measuredB, cellB, cellsB, sessionB, coreB, wholeB, withCore}
+use Rattle.state.specs.State.{noSession, noAlarm, nothingCounted, shutLocks, freshCore, fresh, countersB, totalsB, latchedB, storesB, measuredB, cellB, cellsB, sessionB, coreB, wholeB, withCore}
 use Rattle.cycle.specs.Cycle.{monthsFrom, monthsCrossed, archiveLine, monthLines, coefficientsIn, temperatureFor, pressureFor, kFor, alarmsFor, factorFor, amountsFor, isTooLarge, anyAlarm, counted, latchesAfter, changeNotes, changes, cycleRefusal, cycledCore, cycled, cycleOf}
-use Rattle.panel.specs.Panel.{lockIn, withLock, rightCode, turnCodes, turnedCore, turned, openRefusal, openOf}
-use Rattle.doors.specs.Doors.{sessionAt, otherAt, placed, withSession, cellAt, withCell, begun, beginRefusal, beginBy, beginOf, readRefusal, valueRead, markedRead, readAfter, readBy, readOf, writeRefusal, stagedCell, writeAfter, writeBy, writeOf, missingAt, lockMissing, overtakenAt, staleB, standsAt, asStand, commitRefusal, changesAmong, audited, commitLines, markedBy, overtakenBy, overtakenSession, committedCore, committed, refusedCommit, commitOf}
-use Rattle.cases.specs.Cases.{sameWhole, sameMeasured, sameNumbers, sameFlag, sameAlarms, sameCounters, blank, monthsHeld, ranTo, holds, allHold, factoryDevice, withVm, table}
+use Rattle.asked.specs.Asked.{lineRefusal, lineGiven}
+use Rattle.panel.specs.Panel.{lockIn, withLock, rightCode, turnCodes, turnedCore, turned, openRefusal, openOf, shutRefusal, shutOf, clearRefusal, clearBy, reported, reportRefusal, reportBy}
+use Rattle.doors.specs.Doors.{sessionAt, otherAt, placed, withSession, cellAt, withCell, begun, beginRefusal, beginBy, beginOf, abandonRefusal, abandonBy, readRefusal, valueRead, markedRead, readAfter, readBy, readOf, writeRefusal, stagedCell, writeAfter, writeBy, writeOf, missingAt, lockMissing, overtakenAt, staleB, standsAt, asStand, commitRefusal, changesAmong, audited, commitLines, markedBy, overtakenBy, overtakenSession, committedCore, committed, refusedCommit, commitOf}
+use Rattle.cases.specs.Cases.{sameWhole, sameMeasured, sameNumbers, sameFlag, sameAlarms, sixOf, sameCounters, blank, monthsHeld, ranTo, holds, allHold, factoryDevice, withCounters, deviceAt, table}
 
 pub every-row-holds : allHold table ≡ true
-unfolding ofBits ofInt add mul allBelow anyBelow leapYear daysIn daysOf firstDay monthStart lastBegun monthOf litresShown baseShown plusLitres plusBase pulseLitres convertedOf amountsOf rows rowOf isFinite withinB fitsRow fitsB factoryOf factorySettings opensB rightB fitsAt settingsFitB inOrder orderedB nearestFraction factorOf equationOf nearestOf takenWithin pressureRead pressureTaken kRead kTaken measuredTaken temperatureRead temperatureTaken kelvinOf ringAfter bookAfter onFrom slotAfter lineNumber advancedRing advancedBook ringB numberB bookB listed stored written heldLines noted numbered logged noSession noAlarm nothingCounted shutLocks freshCore fresh countersB latchedB storesB measuredB cellB cellsB sessionB coreB wholeB withCore monthsFrom monthsCrossed archiveLine monthLines coefficientsIn temperatureFor pressureFor kFor alarmsFor factorFor amountsFor isTooLarge anyAlarm counted latchesAfter changeNotes changes cycleRefusal cycledCore cycled cycleOf lockIn withLock rightCode turnCodes turnedCore turned openRefusal openOf sessionAt otherAt placed withSession cellAt withCell begun beginRefusal beginBy readRefusal valueRead markedRead readAfter readBy writeRefusal stagedCell writeAfter writeBy missingAt lockMissing overtakenAt staleB standsAt asStand commitRefusal changesAmong audited commitLines markedBy overtakenBy overtakenSession committedCore committed refusedCommit commitOf sameWhole sameMeasured sameNumbers sameFlag sameAlarms sameCounters blank monthsHeld ranTo holds allHold factoryDevice withVm table
+unfolding ofBits ofInt add mul allBelow anyBelow leapYear daysIn daysOf firstDay monthStart lastBegun monthOf litresShown baseShown plusLitres plusBase pulseLitres convertedOf amountsOf rows rowOf isFinite withinB fitsRow fitsB factoryOf factorySettings opensB rightB fitsAt settingsFitB inOrder orderedB nearestFraction factorOf equationOf nearestOf takenWithin pressureRead pressureTaken kRead kTaken measuredTaken temperatureRead temperatureTaken kelvinOf ringAfter bookAfter onFrom slotAfter lineNumber advancedRing advancedBook ringB numberB bookB listed stored written heldLines noted numbered logged noSession noAlarm nothingCounted shutLocks freshCore fresh countersB totalsB latchedB storesB measuredB cellB cellsB sessionB coreB wholeB withCore monthsFrom monthsCrossed archiveLine monthLines coefficientsIn temperatureFor pressureFor kFor alarmsFor factorFor amountsFor isTooLarge anyAlarm counted latchesAfter changeNotes changes cycleRefusal cycledCore cycled cycleOf lockIn withLock rightCode turnCodes turnedCore turned openRefusal openOf shutRefusal shutOf clearRefusal clearBy reported reportRefusal reportBy lineRefusal lineGiven sessionAt otherAt placed withSession cellAt withCell begun beginRefusal beginBy abandonRefusal abandonBy readRefusal valueRead markedRead readAfter readBy writeRefusal stagedCell writeAfter writeBy missingAt lockMissing overtakenAt staleB standsAt asStand commitRefusal changesAmong audited commitLines markedBy overtakenBy overtakenSession committedCore committed refusedCommit commitOf sameWhole sameMeasured sameNumbers sameFlag sameAlarms sixOf sameCounters blank monthsHeld ranTo holds allHold factoryDevice withCounters deviceAt table
 every-row-holds = refl

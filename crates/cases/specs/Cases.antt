@@ -1,5 +1,5 @@
--- "Twelve cases by hand" of document 01, as the rows of one table. A row has the number of its case (2 is H2) and one question of the
--- case, with the answer that the paper gives. A new kind of row is a constructor of `Case` and a clause of `holds`.
+-- "Twelve cases by hand" of document 01, and those of the requests of document 02, as the rows of one table. A row says where it comes from and
+-- asks one question, with the answer that was worked out by hand. A new kind of row is a constructor of `Case` and a clause of `holds`.
 -- Assumes nothing.
 use mathlib.Core.Bool.{Bool, true, false, not, _&&_}
 use mathlib.Core.List.{List, [], _∷_, map}
@@ -9,7 +9,6 @@ use lib.IntN.{ℤ, pos, negsuc, negℤ}
 use lib.Ieee.{Float, fin, binary64, ofBits}
 use lib.ListN.{replicate}
 use Rattle.order.specs.Order.{run}
-use Rattle.units.specs.declared.Amounts.the-variants.{Counted}
 use Rattle.units.specs.Units.{litresOf, baseOf}
 use Rattle.settings.specs.Settings.{factorySettings}
 use Rattle.settings.specs.declared.Value.the-variants.{Whole}
@@ -32,8 +31,10 @@ use Rattle.state.specs.declared.Alarms.{Alarms}
 use Rattle.state.specs.declared.Core.{Core}
 use Rattle.state.specs.declared.State.{State}
 use Rattle.state.specs.State.{fresh, withCore}
-use Rattle.cycle.specs.Cycle.{coefficientsIn, measuredBy}
-use Rattle.runs.specs.Run.{Step, Cycle, Turn, Open, Call, Commit, Begin, Read, Write, World, Reply, numberOf, corrector}
+use Rattle.cycle.specs.Cycle.{coefficientsIn}
+use Rattle.panel.specs.Panel.{reported}
+use Rattle.commands.specs.declared.Question.the-variants as question
+use Rattle.runs.specs.Run.{Step, Cycle, Turn, Open, Shut, Clear, Ask, Call, Commit, Begin, Read, Write, Abandon, World, Reply, numberOf, corrector}
 
 -- ---- what a row can ask
 
@@ -46,19 +47,23 @@ pub data Case : Type 0 where
   measuredCase : Coefficients → ℕ → Measured → Case
   -- a device with blank stores, the steps of its run, and the numbers of the answers in turn
   runCase : State → List Step → List ℕ → Case
-  -- the same, and after the last step the four counters: Vm, VmD, Vb, VbD
-  countersCase : State → List Step → List ℕ → ℕ → ℕ → ℕ → ℕ → Case
+  -- the same, and the six counters that a report shows after the last step
+  countersCase : State → List Step → List ℕ → Counters → Case
   -- or the alarms present: p, T, K
   alarmsCase : State → List Step → List ℕ → Bool → Bool → Bool → Case
   -- or the months of the archive lines held, newest first
   monthsCase : State → List Step → List ℕ → List ℕ → Case
 
+-- H2 is `H 2`, a case of document 02's One is `Request 1`
+pub data Source : Type 0 where
+  H Request : ℕ → Source
+
 pub record Row : Type 0 where
-  pub number : ℕ
+  pub source : Source
   pub asked : Case
 
-abbrev pub row : ℕ → Case → Row
-row n c = record { number = n; asked = c }
+abbrev pub row : Source → Case → Row
+row source asked = record { source = source; asked = asked }
 
 -- ---- when two answers are the same
 
@@ -87,8 +92,11 @@ sameFlag false b = not b
 unfoldable pub sameAlarms : Alarms → Bool → Bool → Bool → Bool
 sameAlarms a p t k = sameFlag (a .p) p && sameFlag (a .t) t && sameFlag (a .k) k
 
-unfoldable pub sameCounters : Counters → ℕ → ℕ → ℕ → ℕ → Bool
-sameCounters c vm vmd vb vbd = eqb (c .vm .0) vm && eqb (c .vmd .0) vmd && eqb (c .vb .0) vb && eqb (c .vbd .0) vbd
+unfoldable pub sixOf : Counters → List ℕ
+sixOf c = c .vm .0 ∷ c .vmd .0 ∷ c .vmt .0 ∷ c .vb .0 ∷ c .vbd .0 ∷ c .vbt .0 ∷ []
+
+unfoldable pub sameCounters : Counters → Counters → Bool
+sameCounters c d = sameNumbers (sixOf c) (sixOf d)
 
 -- ---- when a row holds
 
@@ -111,7 +119,7 @@ holds (factorCase p tb pb t k answer) = eqb (factorOf p tb pb t k) answer
 holds (nearestCase x answer) = sameMeasured (nearestOf x) answer
 holds (measuredCase c raw answer) = sameMeasured (nearestOf (equationOf c raw)) answer
 holds (runCase s steps numbers) = ranTo s steps numbers (λ w. true)
-holds (countersCase s steps numbers vm vmd vb vbd) = ranTo s steps numbers (λ w. sameCounters (w .state .core .measured .counters) vm vmd vb vbd)
+holds (countersCase s steps numbers answer) = ranTo s steps numbers (λ w. sameCounters (reported (w .state .core) .counters) answer)
 holds (alarmsCase s steps numbers p t k) = ranTo s steps numbers (λ w. sameAlarms (w .state .core .measured .alarms) p t k)
 holds (monthsCase s steps numbers months) = ranTo s steps numbers (λ w. sameNumbers (monthsHeld w) months)
 
@@ -125,51 +133,89 @@ allHold (r ∷ rs) = holds (r .asked) && allHold rs
 unfoldable pub factoryDevice : State
 factoryDevice = fresh 0 1111 2222
 
--- a core that has counted so many litres on Vm, and nothing at base conditions
-unfoldable pub withVm : Core → ℕ → Core
-withVm c vm = record {
-  measured = measuredBy (c .measured) (c .measured .time) (c .measured .alarms) (Counted (litresOf vm) (baseOf 0));
+-- Vm, VmD, VmT in litres, then Vb, VbD, VbT in hundred-thousandths of a litre
+abbrev pub counts : ℕ → ℕ → ℕ → ℕ → ℕ → ℕ → Counters
+counts vm vmd vmt vb vbd vbt = record { vm = litresOf vm; vmd = litresOf vmd; vmt = litresOf vmt; vb = baseOf vb; vbd = baseOf vbd; vbt = baseOf vbt }
+
+-- the same core with other counters
+unfoldable pub withCounters : Core → Counters → Core
+withCounters c counters = record {
+  measured = record { time = c .measured .time; month = c .measured .month; counters = counters; alarms = c .measured .alarms };
   latches = c .latches;
   locks = c .locks;
   settings = c .settings;
   stores = c .stores;
 }
 
+-- the factory device, had it counted so much
+unfoldable pub deviceAt : Counters → State
+deviceAt counters = withCore factoryDevice (withCounters (factoryDevice .core) counters)
+
 -- a cycle at a time, of n pulses, raw 7,680 and a pressure in pascals; K is not computed
 abbrev pub aCycle : ℕ → ℕ → ℕ → Step
 aCycle time n p = Cycle (record { time = time; n = n; raw = Raw 7680; pressure = Pascals p; k = NotComputed })
+
+-- one command of each kind
+abbrev pub oneOfEach : List Step
+oneOfEach =
+    aCycle 60 1 202650
+    ∷ Turn (Open 1 0) ∷ Turn (Shut 1) ∷ Clear
+    ∷ Ask question.Report ∷ Ask (question.Archive 0) ∷ Ask (question.Log 0) ∷ Ask (question.Audit 0)
+    ∷ Call 1 Begin ∷ Call 1 (Read 1) ∷ Call 1 (Write 1 (Whole (pos 1))) ∷ Call 1 Abandon
+    ∷ Commit 1
+    ∷ []
+
+-- each of them is refused with 1
+abbrev pub oneEach : List ℕ
+oneEach = replicate 13 1
 
 -- ---- the table
 
 -- a float ± m · 2^e is `fin s m e`, with a minus where s is true
 unfoldable pub table : List Row
 table =
-    row 1 (factorCase 101325 27315 101325 27315 10000 100000)
-    ∷ row 2 (factorCase 202650 27315 101325 (kelvinOf (pos 2000)) 10000 186355)
-    ∷ row 3 (factorCase 100001 27315 100000 27315 20000 50001)
-    ∷ row 4 (measuredCase (coefficientsIn factorySettings) 7680 (Hundredths (pos 2000)))
-    ∷ row 4 (countersCase factoryDevice (aCycle 60 10 202650 ∷ []) (0 ∷ []) 1000 0 186355000 0)
-    ∷ row 5 (countersCase factoryDevice (aCycle 60 10 89999 ∷ []) (0 ∷ []) 0 1000 0 93178000)  -- 93,178 is the factor with p.F
-    ∷ row 5 (alarmsCase factoryDevice (aCycle 60 10 89999 ∷ []) (0 ∷ []) true false false)
-    ∷ row 5 (countersCase factoryDevice (aCycle 60 10 90000 ∷ []) (0 ∷ []) 1000 0 82763000 0)
-    ∷ row 5 (alarmsCase factoryDevice (aCycle 60 10 90000 ∷ []) (0 ∷ []) false false false)
-    ∷ row 6 (nearestCase (fin true 1 (negℤ (pos 1))) (Hundredths (negℤ (pos 1))))  -- -0.5
-    ∷ row 6 (nearestCase (fin false 4001 (negℤ (pos 1))) (Hundredths (pos 2001)))  -- 2,000.5
-    ∷ row 6 (nearestCase (fin true 1 (negℤ (pos 2))) (Hundredths (pos 0)))  -- -0.25
-    ∷ row 6 (nearestCase (ofBits binary64 0x40d3_8800_0000_0000) (Hundredths (pos 20000)))  -- 20,000, by its bits
-    ∷ row 6 (nearestCase (ofBits binary64 0x40d3_8800_0000_0001) Failed)  -- the next float above
-    ∷ row 7 (countersCase (withCore factoryDevice (withVm (factoryDevice .core) 999999999900)) (aCycle 60 1 202650 ∷ []) (0 ∷ []) 0 0 18635500 0)
-    ∷ row 8 (monthsCase factoryDevice (aCycle 2678399 0 202650 ∷ []) (0 ∷ []) [])
-    ∷ row 8 (monthsCase factoryDevice (aCycle 2678400 0 202650 ∷ []) (0 ∷ []) (0 ∷ []))
-    ∷ row 9 (monthsCase factoryDevice (aCycle 3155759999 0 202650 ∷ []) (0 ∷ [])
+    row (H 1) (factorCase 101325 27315 101325 27315 10000 100000)
+    ∷ row (H 2) (factorCase 202650 27315 101325 (kelvinOf (pos 2000)) 10000 186355)
+    ∷ row (H 3) (factorCase 100001 27315 100000 27315 20000 50001)
+    ∷ row (H 4) (measuredCase (coefficientsIn factorySettings) 7680 (Hundredths (pos 2000)))
+    ∷ row (H 4) (countersCase factoryDevice (aCycle 60 10 202650 ∷ []) (0 ∷ []) (counts 1000 0 1000 186355000 0 186355000))
+    ∷ row (H 5) (countersCase factoryDevice (aCycle 60 10 89999 ∷ []) (0 ∷ []) (counts 0 1000 1000 0 93178000 93178000))  -- 93,178 is the factor with p.F
+    ∷ row (H 5) (alarmsCase factoryDevice (aCycle 60 10 89999 ∷ []) (0 ∷ []) true false false)
+    ∷ row (H 5) (countersCase factoryDevice (aCycle 60 10 90000 ∷ []) (0 ∷ []) (counts 1000 0 1000 82763000 0 82763000))
+    ∷ row (H 5) (alarmsCase factoryDevice (aCycle 60 10 90000 ∷ []) (0 ∷ []) false false false)
+    ∷ row (H 6) (nearestCase (fin true 1 (negℤ (pos 1))) (Hundredths (negℤ (pos 1))))  -- -0.5
+    ∷ row (H 6) (nearestCase (fin false 4001 (negℤ (pos 1))) (Hundredths (pos 2001)))  -- 2,000.5
+    ∷ row (H 6) (nearestCase (fin true 1 (negℤ (pos 2))) (Hundredths (pos 0)))  -- -0.25
+    ∷ row (H 6) (nearestCase (ofBits binary64 0x40d3_8800_0000_0000) (Hundredths (pos 20000)))  -- 20,000, by its bits
+    ∷ row (H 6) (nearestCase (ofBits binary64 0x40d3_8800_0000_0001) Failed)  -- the next float above
+    ∷ row (H 7) (countersCase (deviceAt (counts 999999999900 0 999999999900 0 0 0)) (aCycle 60 1 202650 ∷ []) (0 ∷ []) (counts 0 0 0 18635500 0 18635500))
+    ∷ row (H 8) (monthsCase factoryDevice (aCycle 2678399 0 202650 ∷ []) (0 ∷ []) [])
+    ∷ row (H 8) (monthsCase factoryDevice (aCycle 2678400 0 202650 ∷ []) (0 ∷ []) (0 ∷ []))
+    ∷ row (H 9) (monthsCase factoryDevice (aCycle 3155759999 0 202650 ∷ []) (0 ∷ [])
     (1198 ∷ 1197 ∷ 1196 ∷ 1195 ∷ 1194 ∷ 1193 ∷ 1192 ∷ 1191 ∷ 1190 ∷ 1189 ∷ 1188 ∷ 1187 ∷ 1186 ∷ 1185 ∷ 1184 ∷ []))
-    ∷ row 9 (monthsCase factoryDevice (aCycle 3155760000 0 202650 ∷ []) (6 ∷ []) [])
-    ∷ row 10 (countersCase factoryDevice (aCycle 60 600 202650 ∷ []) (0 ∷ []) 60000 0 11181300000 0)
-    ∷ row 10 (countersCase factoryDevice (aCycle 60 601 202650 ∷ []) (7 ∷ []) 0 0 0 0)
-    ∷ row 11 (runCase factoryDevice (Turn (Open 2 1111) ∷ Call 1 Begin ∷ Call 1 (Read 16) ∷ Call 2 Begin ∷ Call 2 (Write 16 (Whole (pos 9900))) ∷ Commit 2 ∷ Call 1 (Write 14 (Whole (pos 200000))) ∷ Commit 1 ∷ [])
+    ∷ row (H 9) (monthsCase factoryDevice (aCycle 3155760000 0 202650 ∷ []) (6 ∷ []) [])
+    ∷ row (H 10) (countersCase factoryDevice (aCycle 60 600 202650 ∷ []) (0 ∷ []) (counts 60000 0 60000 11181300000 0 11181300000))
+    ∷ row (H 10) (countersCase factoryDevice (aCycle 60 601 202650 ∷ []) (7 ∷ []) (counts 0 0 0 0 0 0))
+    ∷ row (H 11) (runCase factoryDevice (Turn (Open 2 1111) ∷ Call 1 Begin ∷ Call 1 (Read 16) ∷ Call 2 Begin ∷ Call 2 (Write 16 (Whole (pos 9900))) ∷ Commit 2 ∷ Call 1 (Write 14 (Whole (pos 200000))) ∷ Commit 1 ∷ [])
     (0 ∷ 0 ∷ 0 ∷ 0 ∷ 0 ∷ 0 ∷ 0 ∷ 11 ∷ []))
-    ∷ row 11 (runCase factoryDevice (Turn (Open 2 1111) ∷ Call 1 Begin ∷ Call 2 Begin ∷ Call 2 (Write 16 (Whole (pos 9900))) ∷ Commit 2 ∷ Call 1 (Write 14 (Whole (pos 200000))) ∷ Commit 1 ∷ [])
+    ∷ row (H 11) (runCase factoryDevice (Turn (Open 2 1111) ∷ Call 1 Begin ∷ Call 2 Begin ∷ Call 2 (Write 16 (Whole (pos 9900))) ∷ Commit 2 ∷ Call 1 (Write 14 (Whole (pos 200000))) ∷ Commit 1 ∷ [])
     (0 ∷ 0 ∷ 0 ∷ 0 ∷ 0 ∷ 0 ∷ 0 ∷ []))  -- without the read
-    ∷ row 12 (runCase factoryDevice (Turn (Open 1 0) ∷ Call 1 Begin ∷ Call 1 (Write 8 (Whole (pos 80000))) ∷ Commit 1 ∷ []) (0 ∷ 0 ∷ 0 ∷ 12 ∷ []))
-    ∷ row 12 (runCase factoryDevice (Turn (Open 1 0) ∷ Call 1 Begin ∷ Call 1 (Write 8 (Whole (pos 80000))) ∷ Call 1 (Write 7 (Whole (pos 80000))) ∷ Commit 1 ∷ []) (0 ∷ 0 ∷ 0 ∷ 0 ∷ 0 ∷ []))
+    ∷ row (H 12) (runCase factoryDevice (Turn (Open 1 0) ∷ Call 1 Begin ∷ Call 1 (Write 8 (Whole (pos 80000))) ∷ Commit 1 ∷ []) (0 ∷ 0 ∷ 0 ∷ 12 ∷ []))
+    ∷ row (H 12) (runCase factoryDevice (Turn (Open 1 0) ∷ Call 1 Begin ∷ Call 1 (Write 8 (Whole (pos 80000))) ∷ Call 1 (Write 7 (Whole (pos 80000))) ∷ Commit 1 ∷ []) (0 ∷ 0 ∷ 0 ∷ 0 ∷ 0 ∷ []))
+    -- Document 02, One. A pulse is 100 litres. At base conditions these are 18,635,500 with the factor 186,355, and 9,317,800 in a disturbed cycle.
+    -- A disturbed cycle and a main one: 93,178,000 + 82,763,000 = 175,941,000.
+    ∷ row (Request 1) (countersCase factoryDevice (aCycle 60 10 89999 ∷ aCycle 120 10 90000 ∷ []) (0 ∷ 0 ∷ []) (counts 1000 1000 2000 82763000 93178000 175941000))
+    -- VmT rolls over while neither part does: by a main pulse, and by a disturbed one
+    ∷ row (Request 1) (countersCase (deviceAt (counts 600000000000 399999999900 999999999900 0 0 0)) (aCycle 60 1 202650 ∷ []) (0 ∷ []) (counts 600000000100 399999999900 0 18635500 0 18635500))
+    ∷ row (Request 1) (countersCase (deviceAt (counts 600000000000 399999999900 999999999900 0 0 0)) (aCycle 60 1 89999 ∷ []) (0 ∷ []) (counts 600000000000 400000000000 0 0 9317800 9317800))
+    -- VbT does: 60,000,000,000,000,000 + 39,999,999,981,364,500 + 18,635,500 = 10^17
+    ∷ row (Request 1) (countersCase (deviceAt (counts 0 0 0 60000000000000000 39999999981364500 99999999981364500)) (aCycle 60 1 202650 ∷ []) (0 ∷ []) (counts 100 0 100 60000000018635500 39999999981364500 0))
+    -- all parts at their highest: 999,999,999,999 twice is 999,999,999,998 under the rollover
+    ∷ row (Request 1) (countersCase (deviceAt (counts 999999999999 999999999999 999999999998 99999999999999999 99999999999999999 99999999999999998)) (aCycle 60 1 202650 ∷ []) (0 ∷ [])
+    (counts 99 999999999999 98 18635499 99999999999999999 18635498))
+    -- a kept total that is one off, and one that was not rolled over: every command is refused with 1
+    ∷ row (Request 1) (runCase (deviceAt (counts 1000 500 1501 0 0 0)) oneOfEach oneEach)
+    ∷ row (Request 1) (runCase (deviceAt (counts 0 0 0 1000 500 1499)) oneOfEach oneEach)
+    ∷ row (Request 1) (runCase (deviceAt (counts 600000000000 400000000000 1000000000000 0 0 0)) oneOfEach oneEach)
+    ∷ row (Request 1) (runCase (deviceAt (counts 600000000000 400000000000 0 0 0 0)) (Ask question.Report ∷ []) (0 ∷ []))
     ∷ []

@@ -1,5 +1,5 @@
 -- Laws of one measuring cycle, over the definitions: each present alarm is latched; the main counters stand still in a cycle with an alarm;
--- counters in range stay in range; no amount of a whole device is ever too large; what the archive and the logbook hold afterwards.
+-- counters in range stay in range; the totals stay main plus disturbed; no amount of a whole device is ever too large; what the archive and the logbook hold afterwards.
 -- Assumes nothing.
 use mathlib.Core.Path.{_≡_, refl, sym, ap, _∙_}
 use mathlib.Core.Logic.{_≢_}
@@ -10,11 +10,11 @@ use native.Mathlib.Omega.{arith}
 use lib.Dec.{T, ltb, leb, eqb}
 use lib.ListN.{length, take}
 use borrow.Author.Tests.{eq-eqb, ltb-false}
-use Rattle.ground.proofs.Flags.{and-left, and-right}
+use Rattle.ground.proofs.Flags.{and-left, and-right, and-both}
 use Rattle.units.specs.declared.Amounts.{Amounts}
 use Rattle.units.specs.declared.Amounts.the-variants.{TooLarge, Counted}
-use Rattle.units.specs.Units.{litresRollover, baseRollover, litresOf, baseOf, plusLitres, plusBase, mostPulses, pulseLitres}
-use Rattle.units.proofs.Sums.{litres-in-range, base-in-range}
+use Rattle.units.specs.Units.{litresRollover, baseRollover, litresOf, baseOf, litresShown, baseShown, plusLitres, plusBase, mostPulses, pulseLitres}
+use Rattle.units.proofs.Sums.{litres-in-range, base-in-range, total-main, total-disturbed}
 use Rattle.units.proofs.Counted.{never-more}
 use Rattle.settings.specs.declared.Setting.{Setting}
 use Rattle.settings.specs.Settings.{cp}
@@ -35,9 +35,9 @@ use Rattle.state.specs.declared.Counters.{Counters}
 use Rattle.state.specs.declared.Alarms.{Alarms}
 use Rattle.state.specs.declared.Core.{Core}
 use Rattle.state.specs.declared.State.{State}
-use Rattle.state.specs.State.{countersB, latchedB, wholeB}
+use Rattle.state.specs.State.{countersB, totalsB, latchedB, wholeB}
 use Rattle.state.proofs.Card.{not-false}
-use Rattle.state.proofs.Sound.{whole-sound}
+use Rattle.state.proofs.Sound.{totals-sound, whole-sound}
 use Rattle.commands.specs.declared.Brought.{Brought}
 use Rattle.cycle.specs.Cycle.{naturalAt, alarmsFor, factorFor, amountsFor, isTooLarge, anyAlarm, counted, latchesAfter, changes, monthLines, cycleRefusal, cycledCore, cycled}
 use Rattle.cycle.proofs.Exact.{asked-in-ranges}
@@ -111,6 +111,21 @@ counters-stay c true (Counted v b) e =
     let h = in-range c e in
     rw (h .vm, litres-in-range (c .vmd) v, h .vb, base-in-range (c .vbd) b)
 
+-- totals that are main plus disturbed stay so
+pub totals-stay : (c : Counters) (disturbed : Bool) (amounts : Amounts) → totalsB c ≡ true → totalsB (counted c disturbed amounts) ≡ true
+unfolding counted totalsB plusLitres litresShown plusBase baseShown
+totals-stay c disturbed TooLarge e = e
+totals-stay c false (Counted v b) e =
+    let h = totals-sound c e in
+    and-both
+    (eq-eqb _ _ (total-main litresRollover (c .vm .0) (c .vmd .0) (c .vmt .0) (v .0) (h .litres)))
+    (eq-eqb _ _ (total-main baseRollover (c .vb .0) (c .vbd .0) (c .vbt .0) (b .0) (h .base)))
+totals-stay c true (Counted v b) e =
+    let h = totals-sound c e in
+    and-both
+    (eq-eqb _ _ (total-disturbed litresRollover (c .vm .0) (c .vmd .0) (c .vmt .0) (v .0) (h .litres)))
+    (eq-eqb _ _ (total-disturbed baseRollover (c .vb .0) (c .vbd .0) (c .vbt .0) (b .0) (h .base)))
+
 -- ---- the amounts of a whole device
 
 pub factor-at-most : (s : State) (r : Brought) → wholeB s ≡ true → factorFor (s .core .settings) r ≤ mostFactor
@@ -131,13 +146,15 @@ module _ (s : State) (r : Brought) (w : wholeB s ≡ true) (few : r .n ≤ mostP
   unfolding isTooLarge
   never-too-large = rw amounts-counted
 
-  -- so a cycle counts them, to the main counters or to the disturbed ones
+  -- so a cycle counts them, to the main counters or to the disturbed ones, and to the totals
   pub counts-main : anyAlarm (alarmsFor (s .core .settings) r) ≡ false → cycledCore (s .core) r .measured .counters
       ≡ record {
         vm = plusLitres (s .core .measured .counters .vm) (litresOf (r .n * pulseLitres (naturalAt (s .core .settings) cp)));
         vmd = s .core .measured .counters .vmd;
+        vmt = plusLitres (s .core .measured .counters .vmt) (litresOf (r .n * pulseLitres (naturalAt (s .core .settings) cp)));
         vb = plusBase (s .core .measured .counters .vb) (baseOf (r .n * pulseLitres (naturalAt (s .core .settings) cp) * factorFor (s .core .settings) r));
         vbd = s .core .measured .counters .vbd;
+        vbt = plusBase (s .core .measured .counters .vbt) (baseOf (r .n * pulseLitres (naturalAt (s .core .settings) cp) * factorFor (s .core .settings) r));
       }
   unfolding cycledCore counted
   counts-main h = rw (h, amounts-counted)
@@ -146,8 +163,10 @@ module _ (s : State) (r : Brought) (w : wholeB s ≡ true) (few : r .n ≤ mostP
       ≡ record {
         vm = s .core .measured .counters .vm;
         vmd = plusLitres (s .core .measured .counters .vmd) (litresOf (r .n * pulseLitres (naturalAt (s .core .settings) cp)));
+        vmt = plusLitres (s .core .measured .counters .vmt) (litresOf (r .n * pulseLitres (naturalAt (s .core .settings) cp)));
         vb = s .core .measured .counters .vb;
         vbd = plusBase (s .core .measured .counters .vbd) (baseOf (r .n * pulseLitres (naturalAt (s .core .settings) cp) * factorFor (s .core .settings) r));
+        vbt = plusBase (s .core .measured .counters .vbt) (baseOf (r .n * pulseLitres (naturalAt (s .core .settings) cp) * factorFor (s .core .settings) r));
       }
   unfolding cycledCore counted
   counts-disturbed h = rw (h, amounts-counted)

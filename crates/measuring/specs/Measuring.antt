@@ -1,4 +1,4 @@
--- What one cycle measures, in the paper's order of work. Document 01, "One measuring cycle".
+-- What one cycle measures, in the paper's order of work. Document 01, "One measuring cycle"; document 02, One.
 -- Assumes nothing.
 use Prim.Native.Nat.{ℕ, zero, suc, _+_, _-_}
 use mathlib.Core.Bool.{Bool, true, false, not, cond, _&&_, _||_}
@@ -101,11 +101,11 @@ unfoldable pub anyAlarm : Alarms → Bool
 anyAlarm a = a .p || a .t || a .k
 
 -- Without an alarm both amounts go to the main counters, and with one the whole of both goes to the disturbed counters. The other two stand
--- still.
+-- still. To the totals both amounts go in either case (document 02, One).
 unfoldable pub counted : Counters → Bool → Amounts → Counters
 counted c disturbed TooLarge = c
-counted c false (Counted v b) = record { vm = plusLitres (c .vm) v; vmd = c .vmd; vb = plusBase (c .vb) b; vbd = c .vbd }
-counted c true (Counted v b) = record { vm = c .vm; vmd = plusLitres (c .vmd) v; vb = c .vb; vbd = plusBase (c .vbd) b }
+counted c false (Counted v b) = record { vm = plusLitres (c .vm) v; vmd = c .vmd; vmt = plusLitres (c .vmt) v; vb = plusBase (c .vb) b; vbd = c .vbd; vbt = plusBase (c .vbt) b }
+counted c true (Counted v b) = record { vm = c .vm; vmd = plusLitres (c .vmd) v; vmt = plusLitres (c .vmt) v; vb = c .vb; vbd = plusBase (c .vbd) b; vbt = plusBase (c .vbt) b }
 
 -- ---- 7. Alarms
 

@@ -38,6 +38,6 @@ unfoldable pub refusalBy : Bool → ℕ → Bool → ℕ → ℕ → Bool → �
 refusalBy sound last lengths time n large = firstOf (
     (1, not (sound && lengths)) ∷ (5, ltb time last) ∷ (6, leb endOfTime time) ∷ (7, ltb mostPulses n) ∷ (14, large) ∷ [])
 
--- both amounts go to the main counters, or both to the disturbed ones
+-- both amounts go to the main counters, or both to the disturbed ones, and to the totals
 unfoldable pub countedBy : Counters → Bool → Litres → BaseUnits → Counters
 countedBy c disturbed v b = counted c disturbed (Counted v b)

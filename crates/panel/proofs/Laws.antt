@@ -1,5 +1,5 @@
 -- Laws of the panel's commands, over the definitions: a whole state stays whole, Clear drops exactly the latches of alarms not
--- present, totals count under the rollover, and a lock turned to where it stands leaves everything as it was.
+-- present, the totals of a report are main plus disturbed, and a lock turned to where it stands leaves everything as it was.
 -- Assumes nothing.
 use mathlib.Core.Path.{_≡_, refl, sym, ap, _∙_}
 use mathlib.Core.Bool.{Bool, true, false, not, cond, _&&_, _||_, true≢false, and-true, and-false}
@@ -11,8 +11,7 @@ use lib.Dec.{ltb, leb, eqb}
 use lib.ListN.{length, getD}
 use borrow.Author.Tests.{ltb-false, lt-leb, le-leb, leb-false}
 use Rattle.ground.proofs.Flags.{or-false-right, Either, is-true, is-false, either-of}
-use Rattle.units.specs.Units.{litresShown, baseShown}
-use Rattle.units.proofs.Sums.{litres-together, base-together}
+use Rattle.units.specs.Units.{plusLitres, plusBase}
 use Rattle.calendar.specs.Calendar.{endOfTime}
 use Rattle.ring.specs.declared.Book.{Book}
 use Rattle.ring.specs.Ring.{archiveLines, logLines, logStep, bookAfter, FromFresh, advancedBook, bookB}
@@ -23,12 +22,13 @@ use Rattle.books.specs.declared.ArchiveLine.{ArchiveLine}
 use Rattle.books.specs.declared.LogLine.{LogLine}
 use Rattle.books.specs.Books.{noArchive, noLog}
 use Rattle.notes.specs.Notes.{numbered, logged}
+use Rattle.state.specs.declared.Counters.{Counters}
 use Rattle.state.specs.declared.Alarms.{Alarms}
 use Rattle.state.specs.declared.Locks.{Locks}
 use Rattle.state.specs.declared.Core.{Core}
 use Rattle.state.specs.declared.State.{State}
 use Rattle.state.specs.State.{fresh, latchedB, wholeB}
-use Rattle.state.proofs.Sound.{Sound, SoundCore, whole-sound, sound-whole, fresh-whole}
+use Rattle.state.proofs.Sound.{Totalled, totals-sound, measured-sound, Sound, SoundCore, whole-sound, sound-whole, fresh-whole}
 use Rattle.asked.specs.Asked.{lineGiven}
 use Rattle.commands.specs.declared.Given.the-variants as given
 use Rattle.commands.specs.Answers.{plain, Outcome, withLog}
@@ -152,14 +152,21 @@ clear-drops present latch = record {
 
 -- ---- totals
 
--- main and disturbed that have counted a and b in all show the total a + b under the rollover
-pub total-litres : (c : Core) (a b : ℕ) → c .measured .counters .vm ≡ litresShown a → c .measured .counters .vmd ≡ litresShown b → reported c .vmt ≡ litresShown (a + b)
-unfolding reported
-total-litres c a b p q = rw (p, q) (litres-together a b)
+-- the totals that a report of a whole state shows are main plus disturbed under the rollover
+module _ (s : State) (e : wholeB s ≡ true) where
+  abbrev shown : Counters
+  shown = reported (s .core) .counters
 
-pub total-base : (c : Core) (a b : ℕ) → c .measured .counters .vb ≡ baseShown a → c .measured .counters .vbd ≡ baseShown b → reported c .vbt ≡ baseShown (a + b)
-unfolding reported
-total-base c a b p q = rw (p, q) (base-together a b)
+  totalled : Totalled (s .core .measured .counters)
+  totalled = totals-sound (s .core .measured .counters) (measured-sound (s .core .measured) (whole-sound s e .core .measured) .totalled)
+
+  pub total-litres : shown .vmt ≡ plusLitres (shown .vm) (shown .vmd)
+  unfolding reported
+  total-litres = λ i. record { 0 = totalled .litres i }
+
+  pub total-base : shown .vbt ≡ plusBase (shown .vb) (shown .vbd)
+  unfolding reported
+  total-base = λ i. record { 0 = totalled .base i }
 
 -- ---- a lock's place
 

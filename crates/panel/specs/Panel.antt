@@ -6,7 +6,6 @@ use mathlib.Core.Bool.{Bool, true, false, not, cond, _&&_, _||_}
 use mathlib.Core.List.{List, [], _∷_}
 use lib.ListN.{length}
 use lib.Dec.{ltb, leb, eqb}
-use Rattle.units.specs.Units.{plusLitres, plusBase}
 use Rattle.calendar.specs.Calendar.{endOfTime}
 use Rattle.ring.specs.Ring.{archiveLines, logLines, advancedBook}
 use Rattle.books.specs.declared.ArchiveLine.{ArchiveLine}
@@ -133,13 +132,11 @@ clearOf s = clearBy (wholeB s) s
 
 -- ---- report
 
--- time, the four counters, the two totals, alarms, latches and locks of one moment
+-- time, the four counters, the two totals, alarms, latches and locks of one moment, all as they are kept
 unfoldable pub reported : Core → Moment
 reported c = record {
   time = c .measured .time;
   counters = c .measured .counters;
-  vmt = plusLitres (c .measured .counters .vm) (c .measured .counters .vmd);
-  vbt = plusBase (c .measured .counters .vb) (c .measured .counters .vbd);
   alarms = c .measured .alarms;
   latches = c .latches;
   cal = c .locks .cal;

@@ -26,7 +26,7 @@ use Rattle.books.specs.declared.AuditLine.{AuditLine}
 use Rattle.runs.specs.Run.{Step, Cycle, Turn, Clear, Ask, Call, Commit, onCycle, World, numberOf, step, corrector, started, Body, bodyOf}
 use Rattle.runs.specs.History.{History, history}
 use Rattle.runs.specs.InForce.{settingsIn}
-use Rattle.runs.specs.Sums.{Counter, Vm, VmD, Vb, VbD, litresBy, baseBy, putBy, amountOf, putIn, sumIn, shownBy, shows, rollover}
+use Rattle.runs.specs.Sums.{Counter, Vm, VmD, VmT, Vb, VbD, VbT, litresBy, baseBy, putBy, amountOf, putIn, sumIn, shownBy, shows, rollover}
 use Rattle.runs.specs.Rows.{rowsOf}
 use Rattle.runs.proofs.Effects.{after, number-is, world-is, leaves}
 use Rattle.runs.proofs.Exactly.{silent}
@@ -62,10 +62,14 @@ counted-by Vm k s l b false e = more litresRollover s (k .vm .0) l e
 counted-by Vm k s l b true e = same litresRollover s (k .vm .0) e
 counted-by VmD k s l b false e = same litresRollover s (k .vmd .0) e
 counted-by VmD k s l b true e = more litresRollover s (k .vmd .0) l e
+counted-by VmT k s l b false e = more litresRollover s (k .vmt .0) l e
+counted-by VmT k s l b true e = more litresRollover s (k .vmt .0) l e
 counted-by Vb k s l b false e = more baseRollover s (k .vb .0) b e
 counted-by Vb k s l b true e = same baseRollover s (k .vb .0) e
 counted-by VbD k s l b false e = same baseRollover s (k .vbd .0) e
 counted-by VbD k s l b true e = more baseRollover s (k .vbd .0) b e
+counted-by VbT k s l b false e = more baseRollover s (k .vbt .0) b e
+counted-by VbT k s l b true e = more baseRollover s (k .vbt .0) b e
 
 cycle-adds-by : (c : Counter) (r : Brought) (w : World) (s : ℕ) → shows c w ≡ s % rollover c → (t : Bool) → firstOf (rowsOf (Cycle r) w) ≡ 0 ⊎ (t ≡ false)
     → shows c (cond t (after (Cycle r) w) w) ≡ (s + cond t (amountOf c (w .state .core .settings) r) 0) % rollover c
@@ -120,10 +124,14 @@ fresh-shows Vm true time supcode custcode = refl
 fresh-shows Vm false time supcode custcode = refl
 fresh-shows VmD true time supcode custcode = refl
 fresh-shows VmD false time supcode custcode = refl
+fresh-shows VmT true time supcode custcode = refl
+fresh-shows VmT false time supcode custcode = refl
 fresh-shows Vb true time supcode custcode = refl
 fresh-shows Vb false time supcode custcode = refl
 fresh-shows VbD true time supcode custcode = refl
 fresh-shows VbD false time supcode custcode = refl
+fresh-shows VbT true time supcode custcode = refl
+fresh-shows VbT false time supcode custcode = refl
 
 module _ (c : Counter) (xs : List Step) (time supcode custcode : ℕ) (archive : List ArchiveLine) (log : List LogLine) (audit : List AuditLine) where
   abbrev start : World

@@ -21,7 +21,7 @@ use Rattle.steps.proofs.Keeps.{step-whole}
 use Rattle.runs.specs.Run.{Step, World, numberOf, step, corrector, started}
 use Rattle.runs.specs.History.{History, history, timeBy, lastTime, startTime}
 use Rattle.runs.specs.Locks.{locksIn, startCode}
-use Rattle.runs.specs.Sums.{Counter, Vm, VmD, Vb, VbD, sumIn, shows, rollover}
+use Rattle.runs.specs.Sums.{Counter, Vm, VmD, VmT, Vb, VbD, VbT, sumIn, shows, rollover}
 use Rattle.runs.specs.Latches.{foundIn}
 use Rattle.runs.specs.Lines.{countersIn}
 use Rattle.runs.proofs.InForce.{Agreed, KeptByStep, from-start}
@@ -56,16 +56,18 @@ module _ (t a b : ℕ) (w : World) (past : History) (s : Told t a b w past) wher
       (measured-sound (w .state .core .measured) (whole-sound (w .state) (s .sound) .core .measured) .in-month)
       ∙ ap monthOf (s .time)
 
-  -- and the four counters show their sums
+  -- and the six counters show their sums
   pub counters-told : w .state .core .measured .counters ≡ countersIn past
   unfolding countersIn
   counters-told =
       let c : Counters = w .state .core .measured .counters in
       let vm = litres-shown (c .vm) (sumIn Vm past) (s .sums Vm) in
       let vmd = litres-shown (c .vmd) (sumIn VmD past) (s .sums VmD) in
+      let vmt = litres-shown (c .vmt) (sumIn VmT past) (s .sums VmT) in
       let vb = base-shown (c .vb) (sumIn Vb past) (s .sums Vb) in
       let vbd = base-shown (c .vbd) (sumIn VbD past) (s .sums VbD) in
-      λ i. record { vm = vm i; vmd = vmd i; vb = vb i; vbd = vbd i }
+      let vbt = base-shown (c .vbt) (sumIn VbT past) (s .sums VbT) in
+      λ i. record { vm = vm i; vmd = vmd i; vmt = vmt i; vb = vb i; vbd = vbd i; vbt = vbt i }
 
 module _ (time supcode custcode : ℕ) (archive : List ArchiveLine) (log : List LogLine) (audit : List AuditLine) where
   abbrev start : World

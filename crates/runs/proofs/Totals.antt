@@ -1,13 +1,14 @@
 -- The totals of a report: after any run from a start, VmT and VbT show, under the rollover, the sum of what the accepted cycles put on the main
--- and on the disturbed counter.
+-- and on the disturbed counter. They are kept, and a state after a run is whole, so they are main plus disturbed.
 -- Assumes nothing.
-use mathlib.Core.Path.{_≡_}
+use mathlib.Core.Path.{_≡_, _∙_}
 use mathlib.Core.List.{List}
 use Prim.Native.Nat.{ℕ, _+_, _%_}
 use Rattle.order.specs.Order.{run}
 use Rattle.units.specs.declared.Litres.{Litres}
 use Rattle.units.specs.declared.BaseUnits.{BaseUnits}
-use Rattle.units.specs.Units.{litresRollover, baseRollover, litresShown, baseShown}
+use Rattle.units.specs.Units.{litresRollover, baseRollover, litresShown, baseShown, plusLitres, plusBase}
+use Rattle.units.proofs.Sums.{litres-together, base-together}
 use Rattle.books.specs.declared.ArchiveLine.{ArchiveLine}
 use Rattle.books.specs.declared.LogLine.{LogLine}
 use Rattle.books.specs.declared.AuditLine.{AuditLine}
@@ -46,15 +47,21 @@ module _ (xs : List Step) (time supcode custcode : ℕ) (archive : List ArchiveL
   report-given = rw (always-whole xs time supcode custcode archive log audit)
 
   -- ITS VmT IS THE SUM OF BOTH COUNTERS' SUMS, under the rollover
-  pub total-measured : reported (end .state .core) .vmt ≡ litresShown (sumIn Vm past + sumIn VmD past)
+  pub total-measured : reported (end .state .core) .counters .vmt ≡ litresShown (sumIn Vm past + sumIn VmD past)
+  unfolding reported
   total-measured =
-      total-litres (end .state .core) (sumIn Vm past) (sumIn VmD past)
-      (litres-shown (end .state .core .measured .counters .vm) (sumIn Vm past) (sums Vm xs time supcode custcode archive log audit))
-      (litres-shown (end .state .core .measured .counters .vmd) (sumIn VmD past) (sums VmD xs time supcode custcode archive log audit))
+      let main = litres-shown (end .state .core .measured .counters .vm) (sumIn Vm past) (sums Vm xs time supcode custcode archive log audit) in
+      let disturbed = litres-shown (end .state .core .measured .counters .vmd) (sumIn VmD past) (sums VmD xs time supcode custcode archive log audit) in
+      total-litres (end .state) (always-whole xs time supcode custcode archive log audit)
+      ∙ (λ i. plusLitres (main i) (disturbed i))
+      ∙ litres-together (sumIn Vm past) (sumIn VmD past)
 
   -- AND ITS VbT
-  pub total-at-base : reported (end .state .core) .vbt ≡ baseShown (sumIn Vb past + sumIn VbD past)
+  pub total-at-base : reported (end .state .core) .counters .vbt ≡ baseShown (sumIn Vb past + sumIn VbD past)
+  unfolding reported
   total-at-base =
-      total-base (end .state .core) (sumIn Vb past) (sumIn VbD past)
-      (base-shown (end .state .core .measured .counters .vb) (sumIn Vb past) (sums Vb xs time supcode custcode archive log audit))
-      (base-shown (end .state .core .measured .counters .vbd) (sumIn VbD past) (sums VbD xs time supcode custcode archive log audit))
+      let main = base-shown (end .state .core .measured .counters .vb) (sumIn Vb past) (sums Vb xs time supcode custcode archive log audit) in
+      let disturbed = base-shown (end .state .core .measured .counters .vbd) (sumIn VbD past) (sums VbD xs time supcode custcode archive log audit) in
+      total-base (end .state) (always-whole xs time supcode custcode archive log audit)
+      ∙ (λ i. plusBase (main i) (disturbed i))
+      ∙ base-together (sumIn Vb past) (sumIn VbD past)

@@ -24,7 +24,7 @@ use Rattle.runs.specs.History.{History, done, lastTime}
 use Rattle.runs.specs.Stale.{hasStaged}
 use Rattle.runs.specs.InForce.{inForce, settingsIn, seenAt}
 use Rattle.runs.specs.Locks.{lockAt}
-use Rattle.runs.specs.Sums.{Vm, VmD, Vb, VbD, sumIn}
+use Rattle.runs.specs.Sums.{Vm, VmD, VmT, Vb, VbD, VbT, sumIn}
 use Rattle.runs.specs.Latches.{foundIn}
 
 -- A store: how many lines it can hold, what the state says of it, what is in it, and the lines that an accepted step writes, oldest first. Those
@@ -43,8 +43,10 @@ unfoldable pub countersIn : History → Counters
 countersIn past = record {
   vm = litresShown (sumIn Vm past);
   vmd = litresShown (sumIn VmD past);
+  vmt = litresShown (sumIn VmT past);
   vb = baseShown (sumIn Vb past);
   vbd = baseShown (sumIn VbD past);
+  vbt = baseShown (sumIn VbT past);
 }
 
 abbrev pub archiveFor : ℕ → ℕ → Step → History → List ArchiveLine

@@ -1,5 +1,5 @@
--- What a run puts on the counters, said of the history alone. Document 01, "One measuring cycle", 6: the amounts are those of the accepted cycles,
--- by the settings in force and the alarms of each.
+-- What a run puts on the six counters, said of the history alone. Document 01, "One measuring cycle", 6: the amounts are those of the accepted cycles,
+-- by the settings in force and the alarms of each. Document 02, One: two of the six are the totals.
 -- Assumes nothing.
 use Prim.Native.Nat.{ℕ, _+_, _*_}
 use mathlib.Core.Bool.{Bool, cond}
@@ -15,7 +15,7 @@ use Rattle.runs.specs.History.{History, done}
 use Rattle.runs.specs.InForce.{settingsIn}
 
 pub data Counter : Type 0 where
-  Vm VmD Vb VbD : Counter
+  Vm VmD VmT Vb VbD VbT : Counter
 
 -- n times the pulse value
 unfoldable pub litresBy : List Setting → Brought → ℕ
@@ -25,7 +25,7 @@ litresBy a r = r .n * pulseLitres (naturalAt a cp)
 unfoldable pub baseBy : List Setting → Brought → ℕ
 baseBy a r = litresBy a r * factorFor a r
 
--- if any alarm is present in the cycle, the whole of both goes to VmD and VbD, and else to Vm and Vb
+-- if any alarm is present in the cycle, the whole of both goes to VmD and VbD, and else to Vm and Vb; to VmT and VbT it goes in either case
 abbrev pub disturbedBy : List Setting → Brought → Bool
 disturbedBy a r = anyAlarm (alarmsFor a r)
 
@@ -33,8 +33,10 @@ disturbedBy a r = anyAlarm (alarmsFor a r)
 abbrev pub putBy : Counter → Bool → ℕ → ℕ → ℕ
 putBy Vm disturbed litres base = cond disturbed 0 litres
 putBy VmD disturbed litres base = cond disturbed litres 0
+putBy VmT disturbed litres base = litres
 putBy Vb disturbed litres base = cond disturbed 0 base
 putBy VbD disturbed litres base = cond disturbed base 0
+putBy VbT disturbed litres base = base
 
 abbrev pub amountOf : Counter → List Setting → Brought → ℕ
 amountOf c a r = putBy c (disturbedBy a r) (litresBy a r) (baseBy a r)
@@ -52,8 +54,10 @@ sumIn c (x ∷ past) = sumIn c past + putIn c x past
 abbrev pub shownBy : Counter → Counters → ℕ
 shownBy Vm c = c .vm .0
 shownBy VmD c = c .vmd .0
+shownBy VmT c = c .vmt .0
 shownBy Vb c = c .vb .0
 shownBy VbD c = c .vbd .0
+shownBy VbT c = c .vbt .0
 
 abbrev pub shows : Counter → World → ℕ
 shows c w = shownBy c (w .state .core .measured .counters)
@@ -61,5 +65,7 @@ shows c w = shownBy c (w .state .core .measured .counters)
 abbrev pub rollover : Counter → ℕ
 rollover Vm = litresRollover
 rollover VmD = litresRollover
+rollover VmT = litresRollover
 rollover Vb = baseRollover
 rollover VbD = baseRollover
+rollover VbT = baseRollover

@@ -6,20 +6,22 @@ use mathlib.Core.Logic.{_↔_}
 use Prim.Native.Nat.{ℕ, _<_}
 use native.Mathlib.Omega.{arith}
 use lib.Dec.{ltb, eqb}
-use borrow.Author.Tests.{lt-ltb, eq-eqb}
+use borrow.Author.Tests.{lt-ltb, eq-eqb, eqb-true}
 use Rattle.ground.specs.Below.{allBelow}
 use Rattle.ground.proofs.Flags.{and-left, and-right}
+use Rattle.units.specs.Units.{litresShown, baseShown, plusLitres, plusBase}
 use Rattle.settings.specs.Settings.{settingsFitB, orderedB}
 use Rattle.settings.proofs.Laws.{factory-fits, factory-ordered}
 use Rattle.calendar.specs.Calendar.{endOfTime, monthOf}
 use Rattle.ring.specs.Ring.{archiveLines, logLines, auditLines, logStep, auditStep, ringAfter, bookAfter, ringB, bookB}
 use Rattle.ring.proofs.Whole.{ring-passes, book-passes, log-common, audit-common, archive-whole, log-whole, audit-whole}
+use Rattle.state.specs.declared.Counters.{Counters}
 use Rattle.state.specs.declared.Measured.{Measured}
 use Rattle.state.specs.declared.Stores.{Stores}
 use Rattle.state.specs.declared.Core.{Core}
 use Rattle.state.specs.declared.Locks.{Locks}
 use Rattle.state.specs.declared.State.{State}
-use Rattle.state.specs.State.{noSession, noAlarm, nothingCounted, shutLocks, freshCore, fresh, countersB, latchedB, StoresFromFresh, storesB, measuredB, cellB, cellsB, sessionB, coreB, wholeB}
+use Rattle.state.specs.State.{noSession, noAlarm, nothingCounted, shutLocks, freshCore, fresh, countersB, totalsB, latchedB, StoresFromFresh, storesB, measuredB, cellB, cellsB, sessionB, coreB, wholeB}
 
 -- ---- the stores
 
@@ -49,6 +51,7 @@ stores-from-fresh x = (stores-from x, stores-pass x)
 pub record SoundMeasured (m : Measured) : Type 0 where
   pub in-time : ltb (m .time) endOfTime ≡ true
   pub counted : countersB (m .counters) ≡ true
+  pub totalled : totalsB (m .counters) ≡ true
   pub in-month : eqb (m .month) (monthOf (m .time)) ≡ true
 
 pub record SoundCore (c : Core) : Type 0 where
@@ -60,15 +63,32 @@ pub record SoundCore (c : Core) : Type 0 where
   pub log-held : bookB logLines logStep (c .stores .log) ≡ true
   pub audit-held : bookB auditLines auditStep (c .stores .audit) ≡ true
 
+-- what the test on the totals says
+pub record Totalled (c : Counters) : Type 0 where
+  pub litres : c .vmt .0 ≡ plusLitres (c .vm) (c .vmd) .0
+  pub base : c .vbt .0 ≡ plusBase (c .vb) (c .vbd) .0
+
+pub totals-sound : (c : Counters) → totalsB c ≡ true → Totalled c
+unfolding totalsB
+totals-sound c e =
+    let l : ℕ = plusLitres (c .vm) (c .vmd) .0 in
+    let b : ℕ = plusBase (c .vb) (c .vbd) .0 in
+    record {
+      litres = eqb-true (c .vmt .0) l (and-left (eqb (c .vmt .0) l) (eqb (c .vbt .0) b) e);
+      base = eqb-true (c .vbt .0) b (and-right (eqb (c .vmt .0) l) (eqb (c .vbt .0) b) e);
+    }
+
 -- what is said of what was measured, clause by clause
 pub measured-sound : (m : Measured) → measuredB m ≡ true → SoundMeasured m
 unfolding measuredB
 measured-sound m e =
     let t : Bool = ltb (m .time) endOfTime in
     let n : Bool = countersB (m .counters) in
+    let v : Bool = totalsB (m .counters) in
     let o : Bool = eqb (m .month) (monthOf (m .time)) in
-    let two : (t && n) ≡ true = and-left (t && n) o e in
-    record { in-time = and-left t n two; counted = and-right t n two; in-month = and-right (t && n) o e }
+    let three : (t && n && v) ≡ true = and-left (t && n && v) o e in
+    let two : (t && n) ≡ true = and-left (t && n) v three in
+    record { in-time = and-left t n two; counted = and-right t n two; totalled = and-right (t && n) v three; in-month = and-right (t && n && v) o e }
 
 pub core-sound : (c : Core) → coreB c ≡ true → SoundCore c
 unfolding coreB storesB
@@ -127,7 +147,7 @@ unfolding sessionB noSession cellsB cellB allBelow
 no-session = refl
 
 fresh-core : (time : ℕ) (locks : Locks) → time < endOfTime → SoundCore (freshCore time locks)
-unfolding freshCore measuredB countersB nothingCounted latchedB noAlarm
+unfolding freshCore measuredB countersB totalsB plusLitres litresShown plusBase baseShown nothingCounted latchedB noAlarm
 fresh-core time locks h = record {
   measured = rw (lt-ltb time endOfTime h, eq-eqb (monthOf time) (monthOf time) refl);
   fit = factory-fits;

@@ -1,4 +1,4 @@
--- The state of a corrector: as it starts, and when it is whole. Document 01, "Number on the fault card", its last paragraph.
+-- The state of a corrector: as it starts, and when it is whole. Document 01, "Number on the fault card", its last paragraph; document 02, One.
 -- Assumes nothing.
 use Prim.Native.Nat.{ℕ}
 use mathlib.Core.Bool.{Bool, false, not, _&&_, _||_}
@@ -7,7 +7,7 @@ use lib.ListN.{getD, replicate}
 use lib.IntN.{pos}
 use lib.Dec.{ltb, eqb}
 use Rattle.ground.specs.Below.{allBelow}
-use Rattle.units.specs.Units.{litresRollover, baseRollover}
+use Rattle.units.specs.Units.{litresRollover, baseRollover, plusLitres, plusBase}
 use Rattle.settings.specs.Settings.{settingCount, fitsB, settingsFitB, orderedB, factorySettings}
 use Rattle.settings.specs.declared.Value.the-variants.{Whole}
 use Rattle.calendar.specs.Calendar.{endOfTime, monthOf}
@@ -35,7 +35,14 @@ unfoldable pub noAlarm : Alarms
 noAlarm = record { p = false; t = false; k = false }
 
 unfoldable pub nothingCounted : Counters
-nothingCounted = record { vm = record { 0 = 0 }; vmd = record { 0 = 0 }; vb = record { 0 = 0 }; vbd = record { 0 = 0 } }
+nothingCounted = record {
+  vm = record { 0 = 0 };
+  vmd = record { 0 = 0 };
+  vmt = record { 0 = 0 };
+  vb = record { 0 = 0 };
+  vbd = record { 0 = 0 };
+  vbt = record { 0 = 0 };
+}
 
 unfoldable pub shutLocks : ℕ → ℕ → Locks
 shutLocks supcode custcode = record { cal = false; sup = false; cust = false; supcode = supcode; custcode = custcode }
@@ -59,6 +66,10 @@ fresh time supcode custcode = record { core = freshCore time (shutLocks supcode 
 -- counters are in range
 unfoldable pub countersB : Counters → Bool
 countersB c = ltb (c .vm .0) litresRollover && ltb (c .vmd .0) litresRollover && ltb (c .vb .0) baseRollover && ltb (c .vbd .0) baseRollover
+
+-- the kept totals do not differ from main plus disturbed under the rollover
+unfoldable pub totalsB : Counters → Bool
+totalsB c = eqb (c .vmt .0) (plusLitres (c .vm) (c .vmd) .0) && eqb (c .vbt .0) (plusBase (c .vb) (c .vbd) .0)
 
 -- each present alarm is latched
 unfoldable pub latchedB : Alarms → Alarms → Bool
@@ -93,9 +104,9 @@ cellsB live cells k = cellB live k (getD cells k blankCell)
 unfoldable pub sessionB : Session → Bool
 sessionB x = allBelow (cellsB (x .live) (x .cells)) settingCount
 
--- time and counters are in range, and the month fits the time
+-- time and counters are in range, the totals are right, and the month fits the time
 unfoldable pub measuredB : Measured → Bool
-measuredB m = ltb (m .time) endOfTime && countersB (m .counters) && eqb (m .month) (monthOf (m .time))
+measuredB m = ltb (m .time) endOfTime && countersB (m .counters) && totalsB (m .counters) && eqb (m .month) (monthOf (m .time))
 
 -- all that is no session
 unfoldable pub coreB : Core → Bool

@@ -4,16 +4,19 @@ pub mod faults;
 ghost use mathlib.Core.Path.{_≡_};
 ghost use mathlib.Core.Bool.{not, _||_};
 ghost use lib.ListN.{getD, set};
-ghost use Rattle.state.specs.State.{blankCell, noSession, nothingCounted, noAlarm, shutLocks, freshCore, fresh, cellB, cellsB, sessionB, countersB, latchedB, storesB, measuredB, coreB, wholeB, withCore};
+ghost use Rattle.state.specs.State.{blankCell, noSession, nothingCounted, noAlarm, shutLocks, freshCore, fresh, cellB, cellsB, sessionB, countersB, totalsB, latchedB, storesB, measuredB, coreB, wholeB, withCore};
 ghost use Rattle.ground.specs.Below.{allBelow};
 ghost use Rattle.settings.specs.Settings.{settingCount, fitsB};
 
-// Vm, VmD, Vb, VbD.
+// Main, disturbed and total at measurement conditions (Vm, VmD, VmT), and the same three at base conditions (Vb, VbD, VbT). The totals are kept because
+// the display board asks for them every second.
 pub struct Counters {
     pub vm: units::Litres,
     pub vmd: units::Litres,
+    pub vmt: units::Litres,
     pub vb: units::BaseUnits,
     pub vbd: units::BaseUnits,
+    pub vbt: units::BaseUnits,
 }
 
 // One flag for each alarm: pressure, temperature, K.
@@ -77,12 +80,10 @@ pub struct State {
     pub port: Session,
 }
 
-// What one moment shows: time, counters, totals, alarms, latches and locks.
+// What one moment shows: time, counters with their totals, alarms, latches and locks.
 pub struct Moment {
     pub time: u64,
     pub counters: Counters,
-    pub vmt: units::Litres,
-    pub vbt: units::BaseUnits,
     pub alarms: Alarms,
     pub latches: Alarms,
     pub cal: bool,
@@ -140,8 +141,10 @@ fn no_counts() -> Counters
     Counters {
         vm: units::Litres(0),
         vmd: units::Litres(0),
+        vmt: units::Litres(0),
         vb: units::BaseUnits(0),
         vbd: units::BaseUnits(0),
+        vbt: units::BaseUnits(0),
     }
 }
 
@@ -232,6 +235,17 @@ fn counters_ok(c: Counters) -> bool
     ground::both(g, e)
 }
 
+// The totals are kept, so they may be wrong.
+fn totals_ok(c: Counters) -> bool
+    ensures { λ r. ⌜ r ≡ totalsB c ⌝ }
+{
+    let vmt = units::add_litres(c.vm, c.vmd);
+    let vbt = units::add_base(c.vb, c.vbd);
+    let a = c.vmt.0 == vmt.0;
+    let b = c.vbt.0 == vbt.0;
+    ground::both(a, b)
+}
+
 fn latched_ok(present: Alarms, latch: Alarms) -> bool
     ensures { λ r. ⌜ r ≡ latchedB present latch ⌝ }
 {
@@ -312,9 +326,11 @@ fn measured_ok(m: Measured) -> bool
 {
     let time = m.time < calendar::END_OF_TIME;
     let counters = counters_ok(m.counters);
+    let totals = totals_ok(m.counters);
     let month = calendar::month_holds(m.month, m.time);
     let a = ground::both(time, counters);
-    ground::both(a, month)
+    let b = ground::both(a, totals);
+    ground::both(b, month)
 }
 
 fn core_ok(c: Core) -> bool

@@ -28,7 +28,7 @@ use Rattle.commands.specs.declared.Command.{Command}
 use Rattle.commands.specs.declared.Command.the-variants.{Cycle, Turn, Clear, Ask, Call, Commit}
 use Rattle.cycle.specs.Cycle.{monthLines, alarmsFor, amountsFor, anyAlarm, measuredBy, changes, cycleRefusal, cycledCore, cycled, cycleOf}
 use Rattle.cycle.proofs.Join.{accepted}
-use Rattle.cycle.proofs.Laws.{counters-stay, latches-hold}
+use Rattle.cycle.proofs.Laws.{counters-stay, totals-stay, latches-hold}
 use Rattle.panel.specs.Panel.{openRefusal, openOf, shutRefusal, shutOf, clearRefusal, clearBy}
 use Rattle.panel.proofs.Laws.{open-whole, shut-whole, clear-whole}
 use Rattle.doors.specs.Doors.{beginRefusal, beginBy, readRefusal, readBy, writeRefusal, writeBy, abandonRefusal, abandonBy, commitRefusal, commitOf, refusedCommit}
@@ -42,7 +42,8 @@ use Rattle.steps.specs.Step.{step}
 measured-stays : (m : Measured) (time : ℕ) (found : Alarms) (amounts : Amounts) → ltb time endOfTime ≡ true → measuredB m ≡ true → measuredB (measuredBy m time found amounts) ≡ true
 unfolding measuredB
 measured-stays m time found amounts h e =
-    rw (h, counters-stay (m .counters) (anyAlarm found) amounts (measured-sound m e .counted), eq-eqb (monthOf time) (monthOf time) refl)
+    let s = measured-sound m e in
+    rw (h, counters-stay (m .counters) (anyAlarm found) amounts (s .counted), totals-stay (m .counters) (anyAlarm found) amounts (s .totalled), eq-eqb (monthOf time) (monthOf time) refl)
 
 pub cycled-sound : (c : Core) (r : Brought) → ltb (r .time) endOfTime ≡ true → SoundCore c → SoundCore (cycledCore c r)
 unfolding cycledCore

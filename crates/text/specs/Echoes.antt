@@ -120,7 +120,7 @@ unfoldable pub momentWords : Moment → List (List ℕ)
 momentWords m =
     (decimal (m .time) ∷ [])
     ++ (counterWords (m .counters)
-    ++ ((decimal (m .vmt .0) ∷ decimal (m .vbt .0) ∷ [])
+    ++ ((decimal (m .counters .vmt .0) ∷ decimal (m .counters .vbt .0) ∷ [])
     ++ (lampWords (m .alarms) (m .latches)
     ++ flagWords (m .cal) (m .sup) (m .cust))))
 

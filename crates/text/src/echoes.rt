@@ -221,8 +221,8 @@ fn put_moment(out: &mut [u8], at: usize, m: state::Moment) -> usize
     ensures { λ r. ⌜ Put 165 (now (out .entry)) (now (out .exit)) at r (joined (momentWords m)) ⌝ }
 {
     let counters = m.counters;
-    let vmt = m.vmt;
-    let vbt = m.vbt;
+    let vmt = counters.vmt;
+    let vbt = counters.vbt;
     let alarms = m.alarms;
     let latches = m.latches;
     let second = put_number(out, at, m.time);

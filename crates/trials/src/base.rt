@@ -22,12 +22,14 @@ pub const TIME: u64 = 100_000_000;
 
 const MONTH: u64 = 38;
 
-pub fn counters(vm: u64, vmd: u64, vb: u64, vbd: u64) -> Counters {
+pub fn counters(vm: u64, vmd: u64, vmt: u64, vb: u64, vbd: u64, vbt: u64) -> Counters {
     Counters {
         vm: Litres(vm),
         vmd: Litres(vmd),
+        vmt: Litres(vmt),
         vb: BaseUnits(vb),
         vbd: BaseUnits(vbd),
+        vbt: BaseUnits(vbt),
     }
 }
 
@@ -52,14 +54,21 @@ pub fn book(held: u64, next: u64, number: u16) -> Book {
     }
 }
 
-// The pressure alarm is present; the temperature alarm is over but still latched. The archive and the logbook are full.
+// Both totals have rolled over. The pressure alarm is present; the temperature alarm is over but still latched. The archive and the logbook are full.
 fn core() -> Core {
     let factory = settings::factory_settings();
     let blank = state::fresh_state(TIME, SUPPLIERS_CODE, CUSTOMERS_CODE);
     let fresh = blank.core;
     let mut measured = fresh.measured;
     measured.month = MONTH;
-    measured.counters = counters(999_999_999_999, 5_000, 99_999_999_999_999_999, 700);
+    measured.counters = counters(
+        999_999_999_999,
+        5_000,
+        4_999,
+        99_999_999_999_999_999,
+        700,
+        699,
+    );
     measured.alarms = alarms(true, false, false);
     let stores = Stores {
         archive: Ring { held: 15, next: 3 },

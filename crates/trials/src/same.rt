@@ -87,9 +87,13 @@ fn sessions(a: Session, b: Session) -> bool {
 fn counters(a: Counters, b: Counters) -> bool {
     let vm = a.vm.0 == b.vm.0;
     let vmd = a.vmd.0 == b.vmd.0;
+    let vmt = a.vmt.0 == b.vmt.0;
     let vb = a.vb.0 == b.vb.0;
     let vbd = a.vbd.0 == b.vbd.0;
-    both(both(vm, vmd), both(vb, vbd))
+    let vbt = a.vbt.0 == b.vbt.0;
+    let litres = both(both(vm, vmd), vmt);
+    let base = both(both(vb, vbd), vbt);
+    both(litres, base)
 }
 
 fn alarms(a: Alarms, b: Alarms) -> bool {

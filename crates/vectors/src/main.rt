@@ -7,11 +7,13 @@ mod months;
 mod stores;
 mod table;
 mod taken;
+mod totals;
 
 fn main() {
     months::run();
     factors::run();
     amounts::run();
+    totals::run();
     measures::run();
     taken::run();
     table::run();
