@@ -118,20 +118,20 @@ puts-told c x w past e = ap (λ (a : List Setting). onCycle (λ r. cond (eqb (nu
 pub sums-kept : (c : Counter) → KeptByStep (λ w past. shows c w ≡ sumIn c past % rollover c)
 sums-kept c x w past h e = step-adds c x w (sumIn c past) e ∙ ap (λ (k : ℕ). (sumIn c past + k) % rollover c) (puts-told c x w past (all-forced w past (h .force)))
 
+nothing-shows : (c : Counter) → shownBy c nothingCounted ≡ 0 % rollover c
+unfolding nothingCounted
+nothing-shows Vm = refl
+nothing-shows VmD = refl
+nothing-shows VmT = refl
+nothing-shows Vb = refl
+nothing-shows VbD = refl
+nothing-shows VbT = refl
+
+-- a refused start has counted nothing either
 fresh-shows : (c : Counter) (t : Bool) (time supcode custcode : ℕ) → shownBy c (cond t (fresh time supcode custcode) (fresh 0 0 0) .core .measured .counters) ≡ 0 % rollover c
-unfolding fresh freshCore nothingCounted
-fresh-shows Vm true time supcode custcode = refl
-fresh-shows Vm false time supcode custcode = refl
-fresh-shows VmD true time supcode custcode = refl
-fresh-shows VmD false time supcode custcode = refl
-fresh-shows VmT true time supcode custcode = refl
-fresh-shows VmT false time supcode custcode = refl
-fresh-shows Vb true time supcode custcode = refl
-fresh-shows Vb false time supcode custcode = refl
-fresh-shows VbD true time supcode custcode = refl
-fresh-shows VbD false time supcode custcode = refl
-fresh-shows VbT true time supcode custcode = refl
-fresh-shows VbT false time supcode custcode = refl
+unfolding fresh freshCore
+fresh-shows c true time supcode custcode = nothing-shows c
+fresh-shows c false time supcode custcode = nothing-shows c
 
 module _ (c : Counter) (xs : List Step) (time supcode custcode : ℕ) (archive : List ArchiveLine) (log : List LogLine) (audit : List AuditLine) where
   abbrev start : World
