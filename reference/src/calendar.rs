@@ -1,10 +1,16 @@
-//! Months and days of the Gregorian calendar, worked out and not looked up.
+//! Months and days of the Gregorian calendar, worked out and not looked up,
+//! and the hour at which a gas month begins.
 //!
 //! Document 01 takes the month of a time from a table of 1,201 day numbers.
 //! Here the same months come from arithmetic, so that an error in the table
-//! would show as a difference.
+//! would show as a difference. The days are those of document 01; a time's
+//! month is that of request Two of document 02.
 
 pub const SECONDS_A_DAY: u64 = 86_400;
+
+/// A gas month begins so many seconds after midnight of its first day: at
+/// 06:00.
+pub const SIX_O_CLOCK: u64 = 21_600;
 
 /// Days from 1 March of the year 0 to 1 January 2000 in the Gregorian
 /// calendar carried backwards: 2,000 years less the two months January and
@@ -32,9 +38,12 @@ pub fn month_of_day(day: u32) -> u32 {
     12 * march_year + march_month + 2 - 12 * 2_000
 }
 
-/// The month in which a time lies. The time must be within the century of
-/// document 01, so that its day number is small.
+/// The month to which a time belongs: the one that holds the time less six
+/// hours. The time must be within the century of document 01, so that its day
+/// number is small.
 pub fn month_of_time(time: u64) -> u32 {
+    // A time below six hours has no month before it and stays in month 0.
+    let time = time.saturating_sub(SIX_O_CLOCK);
     month_of_day((time / SECONDS_A_DAY) as u32)
 }
 
@@ -47,9 +56,19 @@ pub fn first_day(month: u32) -> u32 {
     days - MARCH_0_TO_2000
 }
 
-/// The first second of a month.
-pub fn first_second(month: u32) -> u64 {
+/// Midnight of a month's first day. The month before lasts six hours more.
+pub fn first_midnight(month: u32) -> u64 {
     u64::from(first_day(month)) * SECONDS_A_DAY
+}
+
+/// The first second of a month: 06:00 of its first day, but time 0 for month 0,
+/// which has the six hours before that too.
+pub fn first_second(month: u32) -> u64 {
+    if month == 0 {
+        0
+    } else {
+        first_midnight(month) + SIX_O_CLOCK
+    }
 }
 
 #[cfg(test)]
@@ -79,13 +98,74 @@ mod tests {
         }
     }
 
+    /// The edges of every month. The figures are walked: days, and hours of
+    /// 3,600 seconds.
     #[test]
-    fn the_ends_named_in_the_paper() {
+    fn every_month_of_the_century_begins_at_six() {
+        let mut midnight = 0;
+        for month in 0..1_200 {
+            let six = midnight + 6 * 3_600;
+            // The first month of all has none before it.
+            let old = if month == 0 { 0 } else { month - 1 };
+            if month > 0 {
+                assert_eq!(month_of_time(midnight - 1), old, "month {month}");
+            }
+            assert_eq!(month_of_time(midnight), old, "month {month}");
+            assert_eq!(month_of_time(six - 1), old, "month {month}");
+            assert_eq!(month_of_time(six), month, "month {month}");
+            assert_eq!(month_of_time(six + 1), month, "month {month}");
+            assert_eq!(first_midnight(month), midnight, "month {month}");
+            assert_eq!(first_second(month), if month == 0 { 0 } else { six }, "month {month}");
+            midnight += 86_400 * u64::from(days_in(2000 + month / 12, month % 12));
+        }
+        assert_eq!(midnight, 3_155_760_000);
+    }
+
+    /// Every hour of every day, at its first two seconds and its last. Before
+    /// six a day's month is that of the day before it.
+    #[test]
+    fn every_hour_of_the_century() {
+        let mut hour = 0;
+        let mut yesterday = 0;
+        for month in 0..1_200 {
+            for _ in 0..days_in(2000 + month / 12, month % 12) {
+                for hour_of_day in 0..24 {
+                    let expected = if hour_of_day < 6 { yesterday } else { month };
+                    let first = hour * 3_600;
+                    for time in [first, first + 1, first + 3_599] {
+                        assert_eq!(month_of_time(time), expected, "time {time}");
+                    }
+                    hour += 1;
+                }
+                yesterday = month;
+            }
+        }
+        assert_eq!(hour, 36_525 * 24);
+    }
+
+    #[test]
+    fn the_ends_named_in_the_papers() {
         assert_eq!(first_day(0), 0);
         assert_eq!(first_day(1_200), 36_525);
-        assert_eq!(first_second(1_200), 3_155_760_000);
-        assert_eq!(month_of_time(3_155_759_999), 1_199);
-        assert_eq!(month_of_time(2_678_399), 0);
-        assert_eq!(month_of_time(2_678_400), 1);
+        assert_eq!(first_midnight(1_200), 3_155_760_000);
+        assert_eq!(first_second(0), 0);
+        assert_eq!(first_second(1), 2_700_000);
+        for (time, month) in [
+            // Less than six hours, and six hours.
+            (0, 0),
+            (1, 0),
+            (21_599, 0),
+            (21_600, 0),
+            // Where H8 was: 31 days, which is midnight.
+            (2_678_399, 0),
+            (2_678_400, 0),
+            // Where it is now: 31 days and six hours.
+            (2_699_999, 0),
+            (2_700_000, 1),
+            (2_700_001, 1),
+            (3_155_759_999, 1_199),
+        ] {
+            assert_eq!(month_of_time(time), month, "time {time}");
+        }
     }
 }

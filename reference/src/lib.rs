@@ -1,5 +1,5 @@
-//! The corrector of document 01, with request One of document 02, as a plain
-//! Rust program.
+//! The corrector of document 01, with requests One and Two of document 02, as
+//! a plain Rust program.
 //!
 //! It was written from these documents and not from the Rattle code, so that
 //! the two can be compared: a slip would have to be made twice, in two

@@ -8,12 +8,14 @@ use common::{tell, Teller};
 fn months_one_by_one() {
     let mut teller = Teller::new();
     // Three years, the first a leap year, one cycle at the first second and
-    // one at the last of each month.
+    // one at the last of each month. A month ends at six on the first of the
+    // next, so month 0 is six hours longer than its days.
     let days = [31, 29, 31, 30, 31, 30, 31, 31, 30, 31, 30, 31];
-    let mut first = 0;
+    let (mut first, mut midnight) = (0, 0);
     for month in 0..36_u64 {
         let length = if month % 12 == 1 && month > 12 { 28 } else { days[month as usize % 12] };
-        let last = first + length * 86_400 - 1;
+        midnight += length * 86_400;
+        let last = midnight + 21_600 - 1;
         teller.done(&[&format!("cycle {first} 1 5120 101325 -")]);
         if month > 0 {
             let litres = 200 * month;
@@ -30,6 +32,41 @@ fn months_one_by_one() {
         }
         first = last + 1;
     }
+}
+
+/// All 1,199 firsts of the century: at midnight and a second before six no line
+/// is written, and at six that of the month before.
+#[test]
+fn every_first_of_the_century() {
+    let mut teller = Teller::new();
+    let (mut midnight, mut litres) = (0_u64, 0_u64);
+    let mut newest = "13".to_string();
+    for month in 0..1_199_u64 {
+        // February has 29 days every fourth year. 2000 is such a year, and no
+        // other full century comes up.
+        midnight += 86_400
+            * match (month / 12 % 4, month % 12) {
+                (0, 1) => 29,
+                (_, 1) => 28,
+                (_, 3 | 5 | 8 | 10) => 30,
+                _ => 31,
+            };
+        for time in [midnight - 1, midnight, midnight + 10_800, midnight + 21_599] {
+            teller.done(&[&format!("cycle {time} 1 5120 101325 -")]);
+            assert_eq!(teller.say("archive 0"), newest, "time {time}");
+        }
+        litres += 400;
+        newest = format!("0 {month} {litres} 0 {litres}00000 0");
+        for time in [midnight + 21_600, midnight + 21_601] {
+            teller.done(&[&format!("cycle {time} 1 5120 101325 -")]);
+            assert_eq!(teller.say("archive 0"), newest, "time {time}");
+        }
+        litres += 200;
+    }
+    // December 2099 is left.
+    assert_eq!(midnight + 31 * 86_400, 3_155_760_000);
+    teller.done(&["cycle 3155759999 1 5120 101325 -"]);
+    assert_eq!(teller.say("archive 0"), newest);
 }
 
 #[test]
@@ -231,8 +268,8 @@ fn no_total_in_an_archive_line() {
     tell(&[
         ("cycle 0 1 5120 101325 -", "0"),
         ("cycle 0 2 - 101325 -", "0"),
-        ("cycle 2678400 0 5120 101325 -", "0"),
+        ("cycle 2700000 0 5120 101325 -", "0"),
         ("archive 0", "0 0 100 200 10000000 18958800"),
-        ("report", "0 2678400 100 200 10000000 18958800 300 28958800 0 0 0 0 1 0 0 0 0"),
+        ("report", "0 2700000 100 200 10000000 18958800 300 28958800 0 0 0 0 1 0 0 0 0"),
     ]);
 }

@@ -1,4 +1,5 @@
-//! The twelve cases by hand, H1 to H12, and the rollover of the totals.
+//! The twelve cases by hand, H1 to H12, H8 as request Two moved it, the
+//! rollover of the totals, and the gas months.
 
 mod common;
 
@@ -149,10 +150,11 @@ fn totals_roll_over_while_neither_part_does() {
 
 #[test]
 fn h8_the_first_month() {
+    // 31 days are 2,678,400 seconds, and six hours are 21,600 more.
     tell(&[
-        ("cycle 2678399 10 5120 101325 -", "0"),
+        ("cycle 2699999 10 5120 101325 -", "0"),
         ("archive 0", "13"),
-        ("cycle 2678400 10 5120 101325 -", "0"),
+        ("cycle 2700000 10 5120 101325 -", "0"),
         ("archive 0", "0 0 1000 0 100000000 0"),
         ("archive 1", "13"),
     ]);
@@ -167,6 +169,135 @@ fn h9_the_whole_century() {
         assert_eq!(teller.say(&format!("archive {index}")), line);
     }
     teller.tell(&[("archive 15", "13"), ("cycle 3155760000 0 - - -", "6")]);
+}
+
+// The gas months of request Two. At 0 degrees, p of pb and K of 1 the factor is
+// 1: one pulse is 100 litres, and 10,000,000 of Vb.
+
+#[test]
+fn gas_month_after_a_leap_february() {
+    // 2000 has 366 days and 2001 to 2003 have 365 each, so 1 January 2004 is
+    // day 1,461. February begins on day 1,492 and has 29 days; 1 March is day
+    // 1,521. Times 86,400: 128,908,800 for 1 February, 131,328,000 for the
+    // 29th, 131,414,400 for 1 March; six is 21,600 later. January 2004 is month
+    // 4 x 12 = 48, February month 49.
+    tell(&[
+        ("start 128908800 0 0", "0"),
+        // 1 February, 05:59:59, is January still.
+        ("cycle 128930399 1 5120 101325 -", "0"),
+        ("archive 0", "13"),
+        ("cycle 128930400 1 5120 101325 -", "0"),
+        ("archive 0", "0 48 100 0 10000000 0"),
+        // 29 February is a day like any other, at midnight and at six.
+        ("cycle 131328000 1 5120 101325 -", "0"),
+        ("cycle 131349599 1 5120 101325 -", "0"),
+        ("cycle 131349600 1 5120 101325 -", "0"),
+        ("archive 1", "13"),
+        // 1 March: midnight, 05:59:59, six.
+        ("cycle 131414400 1 5120 101325 -", "0"),
+        ("archive 1", "13"),
+        ("cycle 131435999 1 5120 101325 -", "0"),
+        ("archive 1", "13"),
+        ("cycle 131436000 1 5120 101325 -", "0"),
+        ("archive 0", "0 49 700 0 70000000 0"),
+        ("archive 1", "0 48 100 0 10000000 0"),
+        ("archive 2", "13"),
+    ]);
+}
+
+#[test]
+fn gas_month_after_a_short_february() {
+    // 1 January 2003 is day 366 + 365 + 365 = 1,096, and 1 March is 31 + 28 days
+    // later, day 1,155. Times 86,400: 99,792,000; six is 99,813,600. February
+    // 2003 is month 3 x 12 + 1 = 37. The start is 28 February, 06:00, a day
+    // before.
+    tell(&[
+        ("start 99727200 0 0", "0"),
+        ("cycle 99813599 1 5120 101325 -", "0"),
+        ("archive 0", "13"),
+        ("cycle 99813600 1 5120 101325 -", "0"),
+        ("archive 0", "0 37 100 0 10000000 0"),
+        ("archive 1", "13"),
+    ]);
+}
+
+#[test]
+fn gas_month_at_the_turn_of_the_year() {
+    // 2000 has 366 days: 1 January 2001 begins at 366 x 86,400 = 31,622,400, and
+    // January's gas month, number 12, at 31,644,000. December 2000 is month 11.
+    tell(&[
+        ("start 31622399 0 0", "0"),
+        ("cycle 31622399 1 5120 101325 -", "0"),
+        ("cycle 31622400 1 5120 101325 -", "0"),
+        ("archive 0", "13"),
+        ("cycle 31643999 1 5120 101325 -", "0"),
+        ("archive 0", "13"),
+        ("cycle 31644000 1 5120 101325 -", "0"),
+        ("archive 0", "0 11 300 0 30000000 0"),
+        ("archive 1", "13"),
+    ]);
+}
+
+#[test]
+fn gas_month_of_the_first_six_hours_of_all() {
+    // From the first time to six and beyond there is one month, number 0.
+    tell(&[
+        ("cycle 0 1 5120 101325 -", "0"),
+        ("cycle 21599 1 5120 101325 -", "0"),
+        ("cycle 21600 1 5120 101325 -", "0"),
+        ("archive 0", "13"),
+        ("cycle 2700000 1 5120 101325 -", "0"),
+        ("archive 0", "0 0 300 0 30000000 0"),
+        ("archive 1", "13"),
+    ]);
+    // The same from a start at each of these times.
+    for time in [0, 1, 21_599, 21_600, 21_601] {
+        let mut teller = Teller::new();
+        teller.done(&[&format!("start {time} 0 0"), "cycle 2699999 1 5120 101325 -"]);
+        assert_eq!(teller.say("archive 0"), "13", "start at {time}");
+        teller.done(&["cycle 2700000 1 5120 101325 -"]);
+        assert_eq!(teller.say("archive 0"), "0 0 100 0 10000000 0", "start at {time}");
+        assert_eq!(teller.say("archive 1"), "13", "start at {time}");
+    }
+}
+
+#[test]
+fn gas_month_of_a_start_before_six() {
+    // 1 February 2000, 03:00, is 2,678,400 + 3 x 3,600 = 2,689,200: month 0.
+    tell(&[
+        ("start 2689200 0 0", "0"),
+        ("archive 0", "13"),
+        ("cycle 2700000 1 5120 101325 -", "0"),
+        ("archive 0", "0 0 0 0 0 0"),
+        ("archive 1", "13"),
+    ]);
+    // A start at six is in month 1. That ends on 1 March at six: 60 days are
+    // 5,184,000 seconds, and six hours later it is 5,205,600.
+    tell(&[
+        ("start 2700000 0 0", "0"),
+        ("cycle 5205599 1 5120 101325 -", "0"),
+        ("archive 0", "13"),
+        ("cycle 5205600 1 5120 101325 -", "0"),
+        ("archive 0", "0 1 100 0 10000000 0"),
+        ("archive 1", "13"),
+    ]);
+}
+
+#[test]
+fn gas_months_crossed_into_the_hours_before_six() {
+    // 1 July 2000 is day 31 + 29 + 31 + 30 + 31 + 30 = 182 and begins at
+    // 15,724,800. At 05:59:59, 15,746,399, June, month 5, is not over yet.
+    tell(&[
+        ("cycle 0 1 5120 101325 -", "0"),
+        ("cycle 15746399 1 5120 101325 -", "0"),
+        ("archive 0", "0 4 100 0 10000000 0"),
+        ("archive 4", "0 0 100 0 10000000 0"),
+        ("archive 5", "13"),
+        ("cycle 15746400 1 5120 101325 -", "0"),
+        ("archive 0", "0 5 200 0 20000000 0"),
+        ("archive 1", "0 4 100 0 10000000 0"),
+        ("archive 6", "13"),
+    ]);
 }
 
 #[test]
