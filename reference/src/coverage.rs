@@ -3,6 +3,7 @@
 
 use std::fmt::Write;
 
+use crate::calendar::{first_day, month_of_day, SECONDS_A_DAY, SIX_O_CLOCK};
 use crate::command::{obey, Command};
 use crate::device::{
     factor, measured_temperature, temperature_float, Counters, Device, Totals, Value, ALARM_K,
@@ -77,6 +78,21 @@ enum Event {
     FewMonths,
     ManyMonths,
     ThousandMonths,
+    CycleAtSix,
+    CycleSecondBeforeSix,
+    CycleBeforeSix,
+    CycleBeforeSixCrossing,
+    CycleAtMidnight,
+    CycleSecondBeforeMidnight,
+    MonthWithinADay,
+    CycleInFirstHours,
+    CycleAtFirstSix,
+    StartAtSix,
+    StartSecondBeforeSix,
+    StartBeforeSix,
+    StartAtMidnight,
+    StartSecondBeforeMidnight,
+    StartInFirstHours,
     ArchiveFull,
     LogFull,
     AuditFull,
@@ -100,7 +116,7 @@ enum Event {
     StartRefusedInUse,
 }
 
-const EVENTS: [&str; 44] = [
+const EVENTS: [&str; 59] = [
     "pressure alarm came",
     "temperature alarm came",
     "K alarm came",
@@ -124,6 +140,21 @@ const EVENTS: [&str; 44] = [
     "2 to 15 months crossed at once",
     "16 to 999 months crossed at once",
     "1,000 months or more crossed at once",
+    "cycle at six on a first, a month crossed",
+    "cycle one second before six on a first, no month crossed",
+    "cycle between midnight and six on a first, no month crossed",
+    "cycle between midnight and six on a first, earlier months crossed",
+    "cycle at midnight of a first, no month crossed",
+    "cycle one second before midnight of a first",
+    "month crossed within one day",
+    "cycle below 21,600 and not at 0",
+    "cycle at 21,600 from below, no month crossed",
+    "start at six on a first",
+    "start one second before six on a first",
+    "start between midnight and six on a first",
+    "start at midnight of a first",
+    "start one second before midnight of a first",
+    "start below 21,600 and not at 0",
     "line into a full archive",
     "line into a full logbook",
     "line into a full audit trail",
@@ -230,12 +261,16 @@ impl Coverage {
         }
         match *command {
             Command::Start { .. } => {
-                self.saw_if(number == 6 && before.in_use, Event::StartRefusedInUse)
+                self.saw_if(number == 6 && before.in_use, Event::StartRefusedInUse);
+                if number == 0 {
+                    self.observe_start(after);
+                }
             }
             Command::Cycle(ref cycle) if number == 0 => {
                 self.observe_alarms(before, after);
                 self.observe_counters(before, after);
                 self.observe_months(before, after);
+                self.observe_six(before, after);
                 let mode = |setting| matches!(after.in_force(setting), Value::Whole(1));
                 let failed =
                     [(4, cycle.p.is_none()), (5, cycle.raw.is_none()), (6, cycle.k.is_none())];
@@ -334,6 +369,37 @@ impl Coverage {
         self.saw_if(before.archive_held == ARCHIVE_LINES, Event::ArchiveFull);
     }
 
+    /// Cycles around the hour at which a month begins.
+    fn observe_six(&mut self, before: &Before, after: &Device) {
+        let (old, time) = (before.time, after.time);
+        let crossed = after.month != before.month;
+        if let Some(second) = on_a_first(time) {
+            self.saw_if(second == SIX_O_CLOCK && crossed, Event::CycleAtSix);
+            self.saw_if(second == SIX_O_CLOCK - 1 && !crossed, Event::CycleSecondBeforeSix);
+            self.saw_if(second < SIX_O_CLOCK && !crossed, Event::CycleBeforeSix);
+            self.saw_if(second < SIX_O_CLOCK && crossed, Event::CycleBeforeSixCrossing);
+            self.saw_if(second == 0 && !crossed, Event::CycleAtMidnight);
+        }
+        self.saw_if(on_a_first(time + 1) == Some(0), Event::CycleSecondBeforeMidnight);
+        let same_day = old / SECONDS_A_DAY == time / SECONDS_A_DAY;
+        self.saw_if(crossed && same_day, Event::MonthWithinADay);
+        self.saw_if(0 < time && time < SIX_O_CLOCK, Event::CycleInFirstHours);
+        let first_six = old < SIX_O_CLOCK && time == SIX_O_CLOCK;
+        self.saw_if(first_six && !crossed, Event::CycleAtFirstSix);
+    }
+
+    fn observe_start(&mut self, after: &Device) {
+        let time = after.time;
+        if let Some(second) = on_a_first(time) {
+            self.saw_if(second == SIX_O_CLOCK, Event::StartAtSix);
+            self.saw_if(second == SIX_O_CLOCK - 1, Event::StartSecondBeforeSix);
+            self.saw_if(second < SIX_O_CLOCK, Event::StartBeforeSix);
+            self.saw_if(second == 0, Event::StartAtMidnight);
+        }
+        self.saw_if(on_a_first(time + 1) == Some(0), Event::StartSecondBeforeMidnight);
+        self.saw_if(0 < time && time < SIX_O_CLOCK, Event::StartInFirstHours);
+    }
+
     /// What can be reached and was not.
     pub fn missing(&self) -> Vec<String> {
         let mut missing = Vec::new();
@@ -398,6 +464,14 @@ impl Coverage {
     }
 }
 
+/// The seconds since midnight, if the time lies on a first: the first day of a
+/// month. The first day of all is none, because no month is before it.
+fn on_a_first(time: u64) -> Option<u64> {
+    let day = (time / SECONDS_A_DAY) as u32;
+    let first = day > 0 && first_day(month_of_day(day)) == day;
+    first.then_some(time % SECONDS_A_DAY)
+}
+
 /// Whether the factor of the cycle just done was exactly a half before
 /// rounding. Only seen where temperature and K are fixed, which is where the
 /// generator brings it about.
@@ -419,6 +493,7 @@ fn half_factor(device: &Device, p: Option<u64>) -> bool {
 
 /// What a command may change or depend on, as it was before.
 struct Before {
+    time: u64,
     month: u32,
     counters: Counters,
     totals: Totals,
@@ -458,6 +533,7 @@ impl Before {
                 .any(|row| staged >> row & 1 == 1 && session.cells[row] == device.settings[row])
         });
         Before {
+            time: device.time,
             month: device.month,
             counters: device.counters,
             totals: device.totals,
@@ -524,6 +600,62 @@ mod tests {
             assert!(vm_landed && vb_landed, "seed {seed}");
             for event in [Event::VmTotalRollover, Event::VbTotalRollover] {
                 assert_ne!(coverage.events[event as usize], 0, "seed {seed}");
+            }
+        }
+    }
+
+    /// What request Two is about.
+    const AROUND_SIX: [Event; 15] = [
+        Event::CycleAtSix,
+        Event::CycleSecondBeforeSix,
+        Event::CycleBeforeSix,
+        Event::CycleBeforeSixCrossing,
+        Event::CycleAtMidnight,
+        Event::CycleSecondBeforeMidnight,
+        Event::MonthWithinADay,
+        Event::CycleInFirstHours,
+        Event::CycleAtFirstSix,
+        Event::StartAtSix,
+        Event::StartSecondBeforeSix,
+        Event::StartBeforeSix,
+        Event::StartAtMidnight,
+        Event::StartSecondBeforeMidnight,
+        Event::StartInFirstHours,
+    ];
+
+    /// The random scripts must come to the hour at which a month begins again
+    /// and again, without the long script and whatever the seed.
+    #[test]
+    fn random_scripts_come_to_six_often() {
+        for seed in [0, 1, 2, 3, 1_000_003, u64::MAX] {
+            let mut rng = Rng::new(seed);
+            let mut coverage = Coverage::new();
+            while coverage.answered() < 200_000 {
+                coverage.answer(&random_script(&mut rng));
+            }
+            for event in AROUND_SIX {
+                let count = coverage.events[event as usize];
+                assert!(count >= 10, "seed {seed}: {count} {}", EVENTS[event as usize]);
+            }
+        }
+    }
+
+    /// The long script comes to every month of the century: to the two seconds
+    /// around midnight of its first day and to the two around six.
+    #[test]
+    fn the_long_script_comes_to_every_first() {
+        for seed in [0, 1, u64::MAX] {
+            let mut coverage = Coverage::new();
+            coverage.answer(&long_script(&mut Rng::new(seed)));
+            for event in [
+                Event::CycleSecondBeforeMidnight,
+                Event::CycleAtMidnight,
+                Event::CycleSecondBeforeSix,
+                Event::CycleAtSix,
+                Event::MonthWithinADay,
+            ] {
+                let count = coverage.events[event as usize];
+                assert!(count >= 1_199, "seed {seed}: {count} {}", EVENTS[event as usize]);
             }
         }
     }

@@ -6,7 +6,7 @@
 //! of a month, a setting that the other door has just read. What the answer
 //! must be plays no part here.
 
-use crate::calendar::{first_second, month_of_time};
+use crate::calendar::{first_midnight, first_second, month_of_time, SIX_O_CLOCK};
 use crate::command::{obey, Command};
 use crate::device::{
     temperature_float, Cycle, Device, Range, Value, ARCHIVE_LINES, AUDIT_LINES, LOG_LINES, N_LIMIT,
@@ -117,9 +117,9 @@ pub fn giant_script(rng: &mut Rng) -> Script {
 }
 
 /// One long script for what no random one reaches: Vm, VmD, Vb, VmT and VbT
-/// roll over, the totals also where neither part does, and the line numbers of
-/// both books pass 65,535. No number of pulses and no reading hangs on the
-/// seed, so every seed reaches all of this.
+/// roll over, the totals also where neither part does, the line numbers of
+/// both books pass 65,535, and every month of the century begins. No number of
+/// pulses and no reading hangs on the seed, so every seed reaches all of this.
 pub fn long_script(rng: &mut Rng) -> Script {
     let mut writer = Writer::new(rng);
     writer.no_noise = true;
@@ -180,6 +180,7 @@ pub fn long_script(rng: &mut Rng) -> Script {
         }
     }
     writer.dump();
+    writer.every_month_begins();
     writer.finish()
 }
 
@@ -472,14 +473,17 @@ impl<'a> Writer<'a> {
     fn calendar(&mut self, until: usize) {
         while self.lines.len() < until {
             let now = self.model.time;
-            let month = month_of_time(now);
+            let next = self.next_six();
             let time = match self.rng.below(100) {
-                0..=29 => now + self.rng.below(1_000_000),
-                30..=44 => first_second(month + 1),
-                45..=59 => first_second(month + 1) - 1,
-                60..=79 => {
-                    let later = month + 1 + self.rng.below(20) as u32;
-                    first_second(later) + self.rng.below(3) - 1
+                0..=21 => now + self.rng.below(1_000_000),
+                22..=51 => self.edge(next).max(now),
+                52..=71 => {
+                    let later = next + self.rng.below(20) as u32;
+                    self.edge(later).max(now)
+                }
+                72..=79 => {
+                    self.through_six();
+                    continue;
                 }
                 80..=83 => now + self.rng.below(TIME_LIMIT - now),
                 84 => TIME_LIMIT - 1,
@@ -487,34 +491,75 @@ impl<'a> Writer<'a> {
                 86..=88 => now.saturating_sub(1 + self.rng.below(3)),
                 _ => now + self.rng.below(90_000),
             };
-            let mut cycle = self.good_cycle();
-            cycle.time = time;
-            self.say(Command::Cycle(cycle));
+            self.cycle_at(time);
             if self.rng.percent(40) {
                 let index = self.index(self.model.archive.held, ARCHIVE_LINES);
                 self.say(Command::Archive { index });
             }
             if self.rng.percent(3) {
-                for index in 0..=ARCHIVE_LINES as u64 {
-                    self.say(Command::Archive { index });
-                }
+                self.whole_archive();
             }
             if self.model.time > TIME_LIMIT - 40_000_000 && self.rng.percent(30)
                 || self.rng.one_in(40)
             {
                 self.start();
-                if self.rng.percent(50) {
+                match self.rng.below(4) {
                     // A whole century, and a thousand months, in one step.
-                    let mut cycle = self.good_cycle();
-                    cycle.time = if self.rng.percent(50) {
-                        TIME_LIMIT - 1
-                    } else {
-                        first_second(1_000 + self.rng.below(199) as u32)
-                    };
-                    self.say(Command::Cycle(cycle));
+                    0 => self.cycle_at(TIME_LIMIT - 1),
+                    1 => {
+                        let month = 1_000 + self.rng.below(199) as u32;
+                        let time = self.edge(month);
+                        self.cycle_at(time);
+                    }
+                    // The start's own day may be the first that this is about.
+                    2 => self.through_six(),
+                    _ => {}
                 }
             }
         }
+    }
+
+    /// Through the six hours before the next month begins: the second before
+    /// midnight of its first day, midnight, a time in between, the second
+    /// before six, six, and the second after. Some are left out, so that each
+    /// of them may be the one that comes after a long time.
+    fn through_six(&mut self) {
+        let midnight = first_midnight(self.next_six());
+        let between = midnight + self.rng.below(SIX_O_CLOCK);
+        let six = midnight + SIX_O_CLOCK;
+        for time in [midnight.saturating_sub(1), midnight, between, six - 1, six, six + 1] {
+            if self.rng.percent(60) {
+                self.cycle_at(time);
+            }
+            if self.rng.percent(40) {
+                self.say(Command::Archive { index: 0 });
+            }
+        }
+    }
+
+    /// Every first of the century after the first of all: no month ends at
+    /// midnight nor a second before six, and one ends at six.
+    fn every_month_begins(&mut self) {
+        self.say(Command::Start { time: 0, code2: 0, code3: 0 });
+        let good = Cycle { time: 0, n: 1, raw: Some(5_120), p: Some(101_325), k: None };
+        // Six o'clock of the first day, where no month begins.
+        for time in [0, SIX_O_CLOCK - 1, SIX_O_CLOCK] {
+            self.say(Command::Cycle(Cycle { time, ..good }));
+            self.say(Command::Archive { index: 0 });
+        }
+        for month in 1..1_200 {
+            let midnight = first_midnight(month);
+            let six = midnight + SIX_O_CLOCK;
+            for time in [midnight - 1, midnight, six - 1] {
+                self.say(Command::Cycle(Cycle { time, ..good }));
+            }
+            self.say(Command::Archive { index: 0 });
+            self.say(Command::Cycle(Cycle { time: six, ..good }));
+            self.say(Command::Archive { index: 0 });
+        }
+        self.say(Command::Cycle(Cycle { time: TIME_LIMIT - 1, ..good }));
+        self.whole_archive();
+        self.say(Command::Report);
     }
 
     /// Many lines into the logbook and the audit trail, and looks at them.
@@ -721,13 +766,17 @@ impl<'a> Writer<'a> {
     // ---- a few lines ----
 
     fn start(&mut self) {
-        let time = match self.rng.below(12) {
+        let time = match self.rng.below(16) {
             0..=2 => 0,
             3..=6 => self.rng.below(TIME_LIMIT),
-            7 => first_second(self.rng.below(1_200) as u32),
-            8 => first_second(1 + self.rng.below(1_200) as u32) - 1,
-            9 => TIME_LIMIT - 1 - self.rng.below(4_000_000),
-            10 => TIME_LIMIT - self.rng.below(2),
+            7..=10 => {
+                let month = self.rng.below(1_200) as u32;
+                self.edge(month)
+            }
+            11 => self.rng.below(SIX_O_CLOCK),
+            12 => self.rng.pick(&[1, SIX_O_CLOCK - 1, SIX_O_CLOCK, SIX_O_CLOCK + 1]),
+            13 => TIME_LIMIT - 1 - self.rng.below(4_000_000),
+            14 => TIME_LIMIT - self.rng.below(2),
             _ => self.rng.pick(&[TIME_LIMIT, TIME_LIMIT + 1, 1 << 32, u64::MAX]),
         };
         let code2 = self.code();
@@ -737,6 +786,12 @@ impl<'a> Writer<'a> {
 
     fn everyday_cycle(&mut self) {
         let cycle = if self.rng.percent(80) { self.good_cycle() } else { self.edge_cycle() };
+        self.say(Command::Cycle(cycle));
+    }
+
+    fn cycle_at(&mut self, time: u64) {
+        let mut cycle = self.good_cycle();
+        cycle.time = time;
         self.say(Command::Cycle(cycle));
     }
 
@@ -842,9 +897,7 @@ impl<'a> Writer<'a> {
     /// All that can be seen of the device.
     fn dump(&mut self) {
         self.say(Command::Report);
-        for index in 0..=ARCHIVE_LINES as u64 {
-            self.say(Command::Archive { index });
-        }
+        self.whole_archive();
         for index in 0..=LOG_LINES as u64 {
             self.say(Command::Log { index });
         }
@@ -852,6 +905,13 @@ impl<'a> Writer<'a> {
             self.say(Command::Audit { index });
         }
         self.read_all();
+    }
+
+    /// Every line of the archive, and one that it cannot hold.
+    fn whole_archive(&mut self) {
+        for index in 0..=ARCHIVE_LINES as u64 {
+            self.say(Command::Archive { index });
+        }
     }
 
     /// Most of what can be seen, in a few lines.
@@ -942,14 +1002,49 @@ impl<'a> Writer<'a> {
 
     fn near_time(&mut self) -> u64 {
         let now = self.model.time;
-        let step = match self.rng.below(20) {
-            0..=4 => 0,
-            5..=16 => self.rng.below(4_000),
-            17 => self.rng.below(100_000),
-            18 => self.rng.below(700_000),
-            _ => return first_second(month_of_time(now) + 1).min(TIME_LIMIT - 1),
+        let month = month_of_time(now) + 1;
+        // One draw chooses the edge of a month too. The commands for the
+        // measure of speed are drawn through here as well, and a second draw
+        // would change all that follow it.
+        let time = match self.rng.below(120) {
+            0..=29 => now,
+            30..=101 => now + self.rng.below(4_000),
+            102..=107 => now + self.rng.below(100_000),
+            108..=113 => now + self.rng.below(700_000),
+            114 | 115 => first_second(month),
+            116 => first_second(month) - 1,
+            117 => first_midnight(month),
+            118 => first_midnight(month) - 1,
+            // Somewhere between midnight and six.
+            _ => first_midnight(month) + now % SIX_O_CLOCK,
         };
-        (now + step).min(TIME_LIMIT - 1)
+        time.clamp(now, TIME_LIMIT - 1)
+    }
+
+    /// The month whose first day comes to its six o'clock next. The first day
+    /// of all has one too, although no month begins there.
+    fn next_six(&self) -> u32 {
+        let now = self.model.time;
+        if now < SIX_O_CLOCK {
+            0
+        } else {
+            month_of_time(now) + 1
+        }
+    }
+
+    /// A time at which a month may be thought to begin: six or midnight of its
+    /// first day, the seconds beside them, and the hours in between.
+    fn edge(&mut self, month: u32) -> u64 {
+        let midnight = first_midnight(month);
+        let six = midnight + SIX_O_CLOCK;
+        match self.rng.below(12) {
+            0..=2 => six,
+            3 | 4 => six - 1,
+            5 => six + 1,
+            6 | 7 => midnight,
+            8 | 9 => midnight.saturating_sub(1),
+            _ => midnight + self.rng.below(SIX_O_CLOCK),
+        }
     }
 
     fn any_time(&mut self) -> u64 {
