@@ -132,8 +132,10 @@ class State:
 
 
 def month_of(time):
-    day = datetime(2000, 1, 1) + timedelta(seconds=time)
-    return (day.year - 2000) * 12 + day.month - 1
+    """The calendar's month six hours before a time; in the first six hours of all, month 0."""
+    first = datetime(2000, 1, 1)
+    before = max(first, first + timedelta(seconds=time) - timedelta(hours=6))
+    return (before.year - 2000) * 12 + before.month - 1
 
 
 def written(size, told):
@@ -344,19 +346,34 @@ def every(title, s):
     put(title, s, ACCEPTED, clause=True)
 
 
+# March 2003 is month 38. Its first midnight is at 99,792,000, that of April at 102,470,400; six o'clock is 21,600 later.
 TIMES = [
     (END_OF_TIME - 1, 1_199),
     (END_OF_TIME, 1_199),
     (MOST, 1_199),
-    (99_792_000, 38),
-    (99_791_999, 38),
-    (102_470_399, 38),
-    (102_470_400, 38),
+    (99_813_600, 38),
+    (99_813_599, 38),
+    (102_491_999, 38),
+    (102_492_000, 38),
     (100_000_000, 37),
     (100_000_000, 39),
     (100_000_000, MOST),
     (END_OF_TIME - 1, 1_198),
     (END_OF_TIME - 1, 1_200),
+    # by midnight, and not by six
+    (99_792_000, 38),
+    (99_792_000, 37),
+    (99_813_599, 37),
+    (102_470_400, 39),
+    (102_470_400, 38),
+    (102_492_000, 39),
+    # the first six hours of all
+    (0, 0),
+    (0, 1_199),
+    (21_599, 0),
+    (21_599, 1_199),
+    (21_600, 0),
+    (21_600, 1),
 ]
 
 ARCHIVES = [(0, 0), (14, 14), (15, 14), (0, 1), (14, 0), (15, 15), (16, 0), (MOST, 0)]

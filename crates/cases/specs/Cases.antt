@@ -30,7 +30,7 @@ use Rattle.state.specs.declared.Counters.{Counters}
 use Rattle.state.specs.declared.Alarms.{Alarms}
 use Rattle.state.specs.declared.Core.{Core}
 use Rattle.state.specs.declared.State.{State}
-use Rattle.state.specs.State.{fresh, withCore}
+use Rattle.state.specs.State.{nothingCounted, fresh, withCore}
 use Rattle.cycle.specs.Cycle.{coefficientsIn}
 use Rattle.panel.specs.Panel.{reported}
 use Rattle.commands.specs.declared.Question.the-variants as question
@@ -53,6 +53,8 @@ pub data Case : Type 0 where
   alarmsCase : State → List Step → List ℕ → Bool → Bool → Bool → Case
   -- or the months of the archive lines held, newest first
   monthsCase : State → List Step → List ℕ → List ℕ → Case
+  -- or these lines whole: of each the month, Vm, VmD, Vb, VbD
+  archiveCase : State → List Step → List ℕ → List ℕ → Case
 
 -- H2 is `H 2`, a case of document 02's One is `Request 1`
 pub data Source : Type 0 where
@@ -104,9 +106,17 @@ sameCounters c d = sameNumbers (sixOf c) (sixOf d)
 unfoldable pub blank : State → World
 blank s = record { state = s; archive = replicate archiveLines noArchive; log = replicate logLines noLog; audit = replicate auditLines noAudit }
 
--- the months of the archive lines held, newest first
+-- the archive lines held, newest first
+unfoldable pub archiveHeld : World → List ArchiveLine
+archiveHeld w = heldLines archiveLines noArchive (w .state .core .stores .archive) (w .archive)
+
 unfoldable pub monthsHeld : World → List ℕ
-monthsHeld w = map (λ (l : ArchiveLine). l .month) (heldLines archiveLines noArchive (w .state .core .stores .archive) (w .archive))
+monthsHeld w = map (λ (l : ArchiveLine). l .month) (archiveHeld w)
+
+-- month, Vm, VmD, Vb, VbD of each line
+unfoldable pub fiveOfEach : List ArchiveLine → List ℕ
+fiveOfEach [] = []
+fiveOfEach (l ∷ ls) = l .month ∷ l .vm .0 ∷ l .vmd .0 ∷ l .vb .0 ∷ l .vbd .0 ∷ fiveOfEach ls
 
 -- a run: the numbers of its answers, and the test of what is seen at the end
 unfoldable pub ranTo : State → List Step → List ℕ → (World → Bool) → Bool
@@ -122,6 +132,7 @@ holds (runCase s steps numbers) = ranTo s steps numbers (λ w. true)
 holds (countersCase s steps numbers answer) = ranTo s steps numbers (λ w. sameCounters (reported (w .state .core) .counters) answer)
 holds (alarmsCase s steps numbers p t k) = ranTo s steps numbers (λ w. sameAlarms (w .state .core .measured .alarms) p t k)
 holds (monthsCase s steps numbers months) = ranTo s steps numbers (λ w. sameNumbers (monthsHeld w) months)
+holds (archiveCase s steps numbers lines) = ranTo s steps numbers (λ w. sameNumbers (fiveOfEach (archiveHeld w)) lines)
 
 unfoldable pub allHold : List Row → Bool
 allHold [] = true
@@ -129,18 +140,21 @@ allHold (r ∷ rs) = holds (r .asked) && allHold rs
 
 -- ---- what the cases begin with
 
--- the factory device, started at time 0; the codes of locks 2 and 3 are 1,111 and 2,222
+-- the factory device, started at a time; the codes of locks 2 and 3 are 1,111 and 2,222
+unfoldable pub startedAt : ℕ → State
+startedAt time = fresh time 1111 2222
+
 unfoldable pub factoryDevice : State
-factoryDevice = fresh 0 1111 2222
+factoryDevice = startedAt 0
 
 -- Vm, VmD, VmT in litres, then Vb, VbD, VbT in hundred-thousandths of a litre
 abbrev pub counts : ℕ → ℕ → ℕ → ℕ → ℕ → ℕ → Counters
 counts vm vmd vmt vb vbd vbt = record { vm = litresOf vm; vmd = litresOf vmd; vmt = litresOf vmt; vb = baseOf vb; vbd = baseOf vbd; vbt = baseOf vbt }
 
--- the same core with other counters
-unfoldable pub withCounters : Core → Counters → Core
-withCounters c counters = record {
-  measured = record { time = c .measured .time; month = c .measured .month; counters = counters; alarms = c .measured .alarms };
+-- the same core with another time, month and counters
+unfoldable pub withMeasured : Core → ℕ → ℕ → Counters → Core
+withMeasured c time month counters = record {
+  measured = record { time = time; month = month; counters = counters; alarms = c .measured .alarms };
   latches = c .latches;
   locks = c .locks;
   settings = c .settings;
@@ -149,7 +163,11 @@ withCounters c counters = record {
 
 -- the factory device, had it counted so much
 unfoldable pub deviceAt : Counters → State
-deviceAt counters = withCore factoryDevice (withCounters (factoryDevice .core) counters)
+deviceAt counters = withCore factoryDevice (withMeasured (factoryDevice .core) 0 0 counters)
+
+-- the factory device, had it last accepted this time and kept this month
+unfoldable pub deviceIn : ℕ → ℕ → State
+deviceIn time month = withCore factoryDevice (withMeasured (factoryDevice .core) time month nothingCounted)
 
 -- a cycle at a time, of n pulses, raw 7,680 and a pressure in pascals; K is not computed
 abbrev pub aCycle : ℕ → ℕ → ℕ → Step
@@ -189,8 +207,9 @@ table =
     ∷ row (H 6) (nearestCase (ofBits binary64 0x40d3_8800_0000_0000) (Hundredths (pos 20000)))  -- 20,000, by its bits
     ∷ row (H 6) (nearestCase (ofBits binary64 0x40d3_8800_0000_0001) Failed)  -- the next float above
     ∷ row (H 7) (countersCase (deviceAt (counts 999999999900 0 999999999900 0 0 0)) (aCycle 60 1 202650 ∷ []) (0 ∷ []) (counts 0 0 0 18635500 0 18635500))
-    ∷ row (H 8) (monthsCase factoryDevice (aCycle 2678399 0 202650 ∷ []) (0 ∷ []) [])
-    ∷ row (H 8) (monthsCase factoryDevice (aCycle 2678400 0 202650 ∷ []) (0 ∷ []) (0 ∷ []))
+    -- H8 as document 02, Two, moved it
+    ∷ row (H 8) (monthsCase factoryDevice (aCycle 2699999 0 202650 ∷ []) (0 ∷ []) [])
+    ∷ row (H 8) (monthsCase factoryDevice (aCycle 2700000 0 202650 ∷ []) (0 ∷ []) (0 ∷ []))
     ∷ row (H 9) (monthsCase factoryDevice (aCycle 3155759999 0 202650 ∷ []) (0 ∷ [])
     (1198 ∷ 1197 ∷ 1196 ∷ 1195 ∷ 1194 ∷ 1193 ∷ 1192 ∷ 1191 ∷ 1190 ∷ 1189 ∷ 1188 ∷ 1187 ∷ 1186 ∷ 1185 ∷ 1184 ∷ []))
     ∷ row (H 9) (monthsCase factoryDevice (aCycle 3155760000 0 202650 ∷ []) (6 ∷ []) [])
@@ -218,4 +237,26 @@ table =
     ∷ row (Request 1) (runCase (deviceAt (counts 0 0 0 1000 500 1499)) oneOfEach oneEach)
     ∷ row (Request 1) (runCase (deviceAt (counts 600000000000 400000000000 1000000000000 0 0 0)) oneOfEach oneEach)
     ∷ row (Request 1) (runCase (deviceAt (counts 600000000000 400000000000 0 0 0 0)) (Ask question.Report ∷ []) (0 ∷ []))
+    -- Document 02, Two. January 2000 has 31 days, so month 1 begins at 31 · 86,400 + 21,600 = 2,700,000. Midnight of 1 February is 2,678,400: no month is crossed.
+    ∷ row (Request 2) (monthsCase factoryDevice (aCycle 2678400 0 202650 ∷ []) (0 ∷ []) [])
+    -- ten pulses before that midnight, ten at 03:00, ten at 06:00: the line of month 0 has the first twenty. 2 · 186,355,000 = 372,710,000
+    ∷ row (Request 2) (archiveCase factoryDevice (aCycle 2678399 10 202650 ∷ aCycle 2689200 10 202650 ∷ aCycle 2700000 10 202650 ∷ []) (0 ∷ 0 ∷ 0 ∷ [])
+    (0 ∷ 2000 ∷ 0 ∷ 372710000 ∷ 0 ∷ []))
+    -- a start at 03:00 of 1 February 2000 is in month 0
+    ∷ row (Request 2) (monthsCase (startedAt 2689200) (aCycle 2699999 0 202650 ∷ aCycle 2700000 0 202650 ∷ []) (0 ∷ 0 ∷ []) (0 ∷ []))
+    -- the first six hours of the first day
+    ∷ row (Request 2) (monthsCase factoryDevice (aCycle 0 0 202650 ∷ aCycle 21599 0 202650 ∷ aCycle 21600 0 202650 ∷ []) (0 ∷ 0 ∷ 0 ∷ []) [])
+    ∷ row (Request 2) (runCase (deviceIn 21599 0) (Ask question.Report ∷ []) (0 ∷ []))
+    ∷ row (Request 2) (runCase (deviceIn 21599 1199) oneOfEach oneEach)
+    -- the end of a leap February, 31 + 29 = 60 days: 60 · 86,400 + 21,600 = 5,205,600. 5,097,600 is 00:00 of the 29th.
+    ∷ row (Request 2) (monthsCase (startedAt 5097600) (aCycle 5205599 0 202650 ∷ []) (0 ∷ []) [])
+    ∷ row (Request 2) (monthsCase (startedAt 5097600) (aCycle 5205600 0 202650 ∷ []) (0 ∷ []) (1 ∷ []))
+    -- the turn of the year 2000, which has 366 days: 366 · 86,400 + 21,600 = 31,644,000. 31,536,000 is 00:00 of 31 December.
+    ∷ row (Request 2) (monthsCase (startedAt 31536000) (aCycle 31643999 0 202650 ∷ []) (0 ∷ []) [])
+    ∷ row (Request 2) (monthsCase (startedAt 31536000) (aCycle 31644000 0 202650 ∷ []) (0 ∷ []) (11 ∷ []))
+    -- a kept month by the calendar's midnight is not whole before six, and the old month is not whole from six on
+    ∷ row (Request 2) (runCase (deviceIn 2678400 1) oneOfEach oneEach)
+    ∷ row (Request 2) (runCase (deviceIn 2699999 0) (Ask question.Report ∷ []) (0 ∷ []))
+    ∷ row (Request 2) (runCase (deviceIn 2700000 0) oneOfEach oneEach)
+    ∷ row (Request 2) (runCase (deviceIn 2700000 1) (Ask question.Report ∷ []) (0 ∷ []))
     ∷ []

@@ -60,15 +60,31 @@ fn times() {
     time(3_155_759_999, 1_199);
     time(3_155_760_000, 1_199);
     time(18_446_744_073_709_551_615, 1_199);
-    time(99_792_000, 38);
-    time(99_791_999, 38);
-    time(102_470_399, 38);
-    time(102_470_400, 38);
+    time(99_813_600, 38);
+    time(99_813_599, 38);
+    time(102_491_999, 38);
+    time(102_492_000, 38);
     time(base::TIME, 37);
     time(base::TIME, 39);
     time(base::TIME, 18_446_744_073_709_551_615);
     time(3_155_759_999, 1_198);
     time(3_155_759_999, 1_200);
+}
+
+// Months begin at six. A month kept by midnight is wrong in the six hours before; in the first six hours of all the month is 0.
+fn before_six() {
+    time(99_792_000, 38);
+    time(99_792_000, 37);
+    time(99_813_599, 37);
+    time(102_470_400, 39);
+    time(102_470_400, 38);
+    time(102_492_000, 39);
+    time(0, 0);
+    time(0, 1_199);
+    time(21_599, 0);
+    time(21_599, 1_199);
+    time(21_600, 0);
+    time(21_600, 1);
 }
 
 fn counters(vm: u64, vmd: u64, vmt: u64, vb: u64, vbd: u64, vbt: u64) {
@@ -281,6 +297,7 @@ fn sessions() {
 pub fn run() {
     standing();
     times();
+    before_six();
     amounts();
     totals();
     latches();

@@ -10,7 +10,7 @@ use borrow.Author.Tests.{ltb-false, le-ltb}
 use lib.Dec.{ltb, eqb}
 use lib.IntN.{ℤ, pos, negsuc, _+ℤ_}
 use lib.Signed.{ltZ}
-use Rattle.ground.proofs.Flags.{or-false-left, or-false-right}
+use Rattle.ground.proofs.Flags.{or-false-left, or-false-right, choice}
 use Rattle.temperature.specs.declared.Coefficients.{Coefficients}
 use Rattle.temperature.specs.declared.Measured.{Measured}
 use Rattle.temperature.specs.declared.Measured.the-variants as measured
@@ -32,11 +32,6 @@ use Rattle.readings.specs.Compressibility.{kTaken, kRead}
 use Rattle.readings.specs.Temperature.{measuredTaken, temperatureRead, temperatureTaken}
 use Rattle.readings.specs.Kelvin.{kelvinOf}
 use Rattle.readings.specs.Plan.{kelvinGuarded}
-
--- a choice has a property if each thing it can choose has it
-choice : {A : Type 0} (P : A → Type 0) (b : Bool) {x y : A} → (b ≡ true → P x) → (b ≡ false → P y) → P (cond b x y)
-choice P true f g = f refl
-choice P false f g = g refl
 
 -- ---- p and K
 
