@@ -9,13 +9,13 @@ hold together were tried together, on each command.
 """
 import struct
 from copy import deepcopy
-from datetime import datetime, timedelta
 from fractions import Fraction
 from itertools import combinations
 from math import floor, inf, isfinite, nan
 
+from vectors import END_OF_TIME, month_of
+
 MOST = 2**64 - 1
-END_OF_TIME = 3_155_760_000
 LITRES, BASE_UNITS = 10**12, 10**17
 LINES = {"archive": 15, "log": 250, "audit": 200}
 
@@ -129,13 +129,6 @@ class State:
 
     def crossed(self):
         return self.with_cell(1, 8, staged=[80_000])
-
-
-def month_of(time):
-    """The calendar's month six hours before a time; in the first six hours of all, month 0."""
-    first = datetime(2000, 1, 1)
-    before = max(first, first + timedelta(seconds=time) - timedelta(hours=6))
-    return (before.year - 2000) * 12 + before.month - 1
 
 
 def written(size, told):
@@ -360,7 +353,7 @@ TIMES = [
     (100_000_000, MOST),
     (END_OF_TIME - 1, 1_198),
     (END_OF_TIME - 1, 1_200),
-    # by midnight, and not by six
+    # midnight, a second before six, and six of a first: the month by midnight is refused, the month by six is not
     (99_792_000, 38),
     (99_792_000, 37),
     (99_813_599, 37),

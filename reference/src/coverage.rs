@@ -604,25 +604,6 @@ mod tests {
         }
     }
 
-    /// What request Two is about.
-    const AROUND_SIX: [Event; 15] = [
-        Event::CycleAtSix,
-        Event::CycleSecondBeforeSix,
-        Event::CycleBeforeSix,
-        Event::CycleBeforeSixCrossing,
-        Event::CycleAtMidnight,
-        Event::CycleSecondBeforeMidnight,
-        Event::MonthWithinADay,
-        Event::CycleInFirstHours,
-        Event::CycleAtFirstSix,
-        Event::StartAtSix,
-        Event::StartSecondBeforeSix,
-        Event::StartBeforeSix,
-        Event::StartAtMidnight,
-        Event::StartSecondBeforeMidnight,
-        Event::StartInFirstHours,
-    ];
-
     /// The random scripts must come to the hour at which a month begins again
     /// and again, without the long script and whatever the seed.
     #[test]
@@ -633,17 +614,19 @@ mod tests {
             while coverage.answered() < 200_000 {
                 coverage.answer(&random_script(&mut rng));
             }
-            for event in AROUND_SIX {
-                let count = coverage.events[event as usize];
-                assert!(count >= 10, "seed {seed}: {count} {}", EVENTS[event as usize]);
+            // The events of request Two stand together.
+            for event in Event::CycleAtSix as usize..=Event::StartInFirstHours as usize {
+                let count = coverage.events[event];
+                assert!(count >= 10, "seed {seed}: {count} {}", EVENTS[event]);
             }
         }
     }
 
-    /// The long script comes to every month of the century: to the two seconds
-    /// around midnight of its first day and to the two around six.
+    /// The long script comes to the two seconds around midnight and to the two
+    /// around six of a first, each of them as often as there are months to begin.
+    /// (That these are all firsts of the century is `every_month_begins`.)
     #[test]
-    fn the_long_script_comes_to_every_first() {
+    fn the_long_script_comes_to_as_many_firsts_as_there_are() {
         for seed in [0, 1, u64::MAX] {
             let mut coverage = Coverage::new();
             coverage.answer(&long_script(&mut Rng::new(seed)));

@@ -85,7 +85,8 @@ fn several_months_in_one_cycle() {
     ]);
 }
 
-/// Jumps of every length, each checked against the months themselves.
+/// Jumps of every length, each checked against the months themselves. (When a
+/// month begins is tested above; here only how many lines are written.)
 #[test]
 fn jumps_of_any_length() {
     use corrector_reference::calendar::first_second;

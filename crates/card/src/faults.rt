@@ -160,18 +160,6 @@ fn the_last_two() {
     );
 }
 
-// When a line of the archive is written, and for which month.
-fn of_the_archive() {
-    text(
-        b"\nThe archive has one line for each month that is over, as the supplier's invoice has it. A month begins at ",
-    );
-    number(calendar::MONTHS_BEGIN_AT / 3600);
-    text(b":00 on its first day, winter time,\n");
-    text(
-        b"and ends when the next begins. Months are numbered from January 2000, which is 0; January 2026 is 312.\n",
-    );
-}
-
 pub fn run() {
     text(b"## Numbers 0 to 14\n\n");
     text(b"| No. | Given when | What to do |\n|--:|---|---|\n");
@@ -185,5 +173,4 @@ pub fn run() {
     text(
         b"nothing; but a commit refused with 10, 11 or 12 also ends its session, and what that had read or staged is gone.\n",
     );
-    of_the_archive();
 }

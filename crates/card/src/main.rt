@@ -1,5 +1,6 @@
-// Prints docs/FAULT-CARD.md: the numbers that the device answers, and its settings. Limits, sizes, ranges, factory values and locks are the device's own. So a change
+// Prints docs/FAULT-CARD.md: the numbers that the device answers, its archive and its settings. Limits, sizes, ranges, factory values and locks are the device's own. So a change
 // of the device changes what is printed, and the gate refuses the committed page.
+mod archive;
 mod faults;
 mod page;
 mod table;
@@ -12,6 +13,8 @@ fn main() {
         b"Printed by the program `card`, with numbers, limits, sizes, ranges, factory values and locks from the device's own rows; not edited by hand.\n\n",
     );
     faults::run();
+    text(b"\n");
+    archive::run();
     text(b"\n");
     table::run();
 }

@@ -49,6 +49,18 @@ pub fn number(n: u64) {
     }
 }
 
+// An hour of the day, from the seconds since midnight: 06:00.
+pub fn hour(seconds: u64) {
+    two_digits(seconds / 3_600);
+    text(b":");
+    two_digits(seconds / 60 % 60);
+}
+
+fn two_digits(n: u64) {
+    io::print_decimal(STDOUT_FILENO, n / 10 % 10);
+    io::print_decimal(STDOUT_FILENO, n % 10);
+}
+
 pub fn whole(n: i64) {
     if n < 0 {
         text(b"-");

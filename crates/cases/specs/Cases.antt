@@ -53,10 +53,10 @@ pub data Case : Type 0 where
   alarmsCase : State → List Step → List ℕ → Bool → Bool → Bool → Case
   -- or the months of the archive lines held, newest first
   monthsCase : State → List Step → List ℕ → List ℕ → Case
-  -- or these lines whole: of each the month, Vm, VmD, Vb, VbD
+  -- or these lines in full: of each the month, Vm, VmD, Vb, VbD
   archiveCase : State → List Step → List ℕ → List ℕ → Case
 
--- H2 is `H 2`, a case of document 02's One is `Request 1`
+-- H2 is `H 2` (H8 has the times that document 02, Two, gave it); a case of document 02's One is `Request 1`
 pub data Source : Type 0 where
   H Request : ℕ → Source
 
@@ -244,7 +244,7 @@ table =
     (0 ∷ 2000 ∷ 0 ∷ 372710000 ∷ 0 ∷ []))
     -- a start at 03:00 of 1 February 2000 is in month 0
     ∷ row (Request 2) (monthsCase (startedAt 2689200) (aCycle 2699999 0 202650 ∷ aCycle 2700000 0 202650 ∷ []) (0 ∷ 0 ∷ []) (0 ∷ []))
-    -- the first six hours of the first day
+    -- the first six hours of the first day: month 0; a state there with month 1,199 is not whole
     ∷ row (Request 2) (monthsCase factoryDevice (aCycle 0 0 202650 ∷ aCycle 21599 0 202650 ∷ aCycle 21600 0 202650 ∷ []) (0 ∷ 0 ∷ 0 ∷ []) [])
     ∷ row (Request 2) (runCase (deviceIn 21599 0) (Ask question.Report ∷ []) (0 ∷ []))
     ∷ row (Request 2) (runCase (deviceIn 21599 1199) oneOfEach oneEach)
@@ -254,7 +254,7 @@ table =
     -- the turn of the year 2000, which has 366 days: 366 · 86,400 + 21,600 = 31,644,000. 31,536,000 is 00:00 of 31 December.
     ∷ row (Request 2) (monthsCase (startedAt 31536000) (aCycle 31643999 0 202650 ∷ []) (0 ∷ []) [])
     ∷ row (Request 2) (monthsCase (startedAt 31536000) (aCycle 31644000 0 202650 ∷ []) (0 ∷ []) (11 ∷ []))
-    -- a kept month by the calendar's midnight is not whole before six, and the old month is not whole from six on
+    -- before six the state with the new month is not whole, and the one with the old month is; from six on it is the other way round
     ∷ row (Request 2) (runCase (deviceIn 2678400 1) oneOfEach oneEach)
     ∷ row (Request 2) (runCase (deviceIn 2699999 0) (Ask question.Report ∷ []) (0 ∷ []))
     ∷ row (Request 2) (runCase (deviceIn 2700000 0) oneOfEach oneEach)

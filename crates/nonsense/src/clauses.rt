@@ -71,7 +71,7 @@ fn times() {
     time(3_155_759_999, 1_200);
 }
 
-// Months begin at six. A month kept by midnight is wrong in the six hours before; in the first six hours of all the month is 0.
+// Months begin at six. A month kept by midnight is wrong from midnight to six; in the first six hours of all the month is 0.
 fn before_six() {
     time(99_792_000, 38);
     time(99_792_000, 37);
