@@ -143,18 +143,11 @@ mod tests {
         assert_eq!(first_second(0), 0);
         assert_eq!(first_second(1), 2_700_000);
         for (time, month) in [
-            // Less than six hours, and six hours.
-            (0, 0),
-            (1, 0),
             (21_599, 0),
             (21_600, 0),
-            // Where H8 was: 31 days, which is midnight.
-            (2_678_399, 0),
-            (2_678_400, 0),
-            // Where it is now: 31 days and six hours.
+            // H8: 31 days and six hours.
             (2_699_999, 0),
             (2_700_000, 1),
-            (2_700_001, 1),
             (3_155_759_999, 1_199),
         ] {
             assert_eq!(month_of_time(time), month, "time {time}");
