@@ -46,6 +46,15 @@ TABLE = {
     20: ((6_000, 12_000), 8_000, SUP),
     21: ((0, 999_999_999), 0, CUST),
 }
+# the four outputs: what each follows, then the litres a pulse of each
+OUTPUTS, CHOICE, WEIGHT = 4, 22, 26
+for k in range(OUTPUTS):
+    TABLE[CHOICE + k] = ((0, 6), 0, SUP)
+for k in range(OUTPUTS):
+    TABLE[WEIGHT + k] = ((1, 1_000_000), 100, SUP)
+
+# a litre in the unit of the counter that is followed: 1 to 3 are Vm, VmD, VmT; 4 to 6 are Vb, VbD, VbT
+LITRE = {1: 1, 2: 1, 3: 1, 4: 100_000, 5: 100_000, 6: 100_000}
 
 
 def fits(setting, v):
@@ -78,7 +87,8 @@ class Session:
 
 
 class State:
-    """The state that the trials start from. A store is how many lines it holds, where the next goes, and in the books the next number."""
+    """The state that the trials start from. A store is how many lines it holds, where the next goes, and in the books the next number.
+    An output is its account, what waits and what was lost."""
 
     def __init__(self, doors=1):
         self.time, self.month = 100_000_000, 38
@@ -86,6 +96,8 @@ class State:
         self.alarms, self.latches = [True, False, False], [True, True, False]
         self.open, self.codes = {1}, {2: 1234, 3: 98_765}
         self.settings = {n: row[1] for n, row in TABLE.items()}
+        self.settings.update({22: 3, 23: 6, 25: 2, 27: 250, 29: 1_000_000})
+        self.outputs = [[99, 7, 3], [24_999_999, 65_535, 2**32 - 1], [0, 2, 1], [5, 0, 0]]
         self.archive, self.log, self.audit = (15, 3), (250, 7, 257), (12, 12, 12)
         self.doors = {1: Session(True), 2: Session(doors == 2)}
         self.doors[1].read, self.doors[1].staged = {16}, {14: 150_000}
@@ -101,6 +113,18 @@ class State:
     def with_setting(self, setting, v):
         s = deepcopy(self)
         s.settings[setting] = v
+        return s
+
+    def with_output(self, k, choice, weight, account):
+        """Output k + 1 with another choice, weight and account; what waits and what was lost stay."""
+        s = self.with_setting(CHOICE + k, choice).with_setting(WEIGHT + k, weight)
+        s.outputs[k][0] = account
+        return s
+
+    def outputs_off(self):
+        s = self
+        for k in range(OUTPUTS):
+            s = s.with_output(k, 0, 100, 0)
         return s
 
     def with_session(self, door, x):
@@ -149,6 +173,16 @@ def counters_whole(vm, vmd, vmt, vb, vbd, vbt):
     return one(vm, vmd, vmt, LITRES) and one(vb, vbd, vbt, BASE_UNITS)
 
 
+def output_whole(choice, weight, account, waiting, lost):
+    """The account is below the weight, both in the unit of the counter that is followed, and 0 if the output is off."""
+    fine = account == 0 if choice == 0 else account < weight * LITRE[choice]
+    return fine and waiting <= 65_535 and lost < 2**32
+
+
+def outputs_whole(s):
+    return all(output_whole(s.settings[CHOICE + k], s.settings[WEIGHT + k], *s.outputs[k]) for k in range(OUTPUTS))
+
+
 def whole(s):
     return (
         s.time < END_OF_TIME
@@ -157,6 +191,7 @@ def whole(s):
         and counters_whole(*s.counters)
         and all(latched or not present for present, latched in zip(s.alarms, s.latches))
         and s.month == month_of(s.time)
+        and outputs_whole(s)
         and all(written(LINES[name], getattr(s, name)) for name in LINES)
         and all(session_whole(x) for x in s.doors.values())
     )
@@ -205,6 +240,7 @@ NUMBER = {
     "pairs": 12,
     "unheld": 13,
     "large": 14,
+    "long": 15,
 }
 
 LENT = {
@@ -226,6 +262,8 @@ def reasons(command, s, args, lengths={}):
         "shut": lambda lock: {"lock": lock not in (1, 2, 3)},
         "clear": lambda: {"right": not s.open & {1, 2}},
         "report": lambda: {},
+        "outputs": lambda: {},
+        "tick": lambda n: {"long": n > 600},
         "log": lambda i: {"unheld": i >= s.log[0]},
         "archive": lambda i: {"unheld": i >= s.archive[0]},
         "audit": lambda i: {"unheld": i >= s.audit[0]},
@@ -252,8 +290,10 @@ def rights(s, session):
 def fate(command, s, args):
     """If it is not refused: what comes back, compared with what went in."""
     x = s.doors.get(args[0]) if args else None
-    if command in ("report", "log", "archive", "audit"):
+    if command in ("report", "outputs", "log", "archive", "audit"):
         return "same"
+    if command == "tick":
+        return "changed" if any(min(args[0], waiting) for _, waiting, _ in s.outputs) else "same"
     if command == "open":
         return "same" if args[0] in s.open else "changed"
     if command == "shut":
@@ -269,7 +309,7 @@ def fate(command, s, args):
     return "changed"
 
 
-GIVES_VALUE = ("report", "log", "archive", "audit", "read")
+GIVES_VALUE = ("report", "outputs", "tick", "log", "archive", "audit", "read")
 tried = set()
 
 
@@ -306,6 +346,8 @@ ACCEPTED = [
     ("report", ()),
     ("log", (0,)),
     ("archive", (0,)),
+    ("tick", (5,)),
+    ("outputs", ()),
     ("cycle", (SOON, 10)),
     ("begin", (2,)),
     ("abandon", (1,)),
@@ -319,10 +361,13 @@ ALL = ACCEPTED
 ALL = ALL + each("open", (0, 1234), (4, 0), (MOST, 0), (2, 0), (3, 1234)) + each("shut", (0,), (4,))
 ALL = ALL + each("log", (250,), (MOST,)) + each("archive", (15,), (MOST,)) + each("audit", (12,), (MOST,))
 ALL = ALL + each("cycle", (EARLY, 10), (SOON, 600), (LATE, 10), (EARLY, 601), (SOON, 601), (LATE, 601), (EARLY, MOST), (SOON, MOST), (MOST, MOST))
+ALL = ALL + each("tick", (0,), (600,), (601,), (MOST,))
 ALL = ALL + each("begin", (0,), (1,), (3,)) + each("abandon", (0,), (2,), (3,)) + each("commit", (0,), (2,), (3,))
-ALL = ALL + each("read", (0, 1), (3, 1), (1, 0), (1, 22), (3, 22), (2, 22), (2, 1))
-ALL = ALL + each("write", (0, 1, 1), (3, 1, 5), (1, 22, 1), (1, 0, 1), (2, 22, 1), (2, 1, 1), (2, 1, 5), (1, 1, 5), (1, 1, 1.0), (1, 11, 1))
-ALL = ALL + each("write", (1, 11, inf), (1, 22, inf), (2, 0, inf), (3, 22, inf))
+ALL = ALL + each("read", (0, 1), (3, 1), (1, 0), (1, 30), (3, 30), (2, 30), (2, 1), (1, 22), (1, 29), (2, 29))
+ALL = ALL + each("write", (0, 1, 1), (3, 1, 5), (1, 30, 1), (1, 0, 1), (2, 30, 1), (2, 1, 1), (2, 1, 5), (1, 1, 5), (1, 1, 1.0), (1, 11, 1))
+ALL = ALL + each("write", (1, 11, inf), (1, 30, inf), (2, 0, inf), (3, 30, inf))
+ALL = ALL + each("write", (1, 22, 0), (1, 22, 6), (1, 22, 7), (2, 22, 7), (1, 22, 1.0))
+ALL = ALL + each("write", (1, 29, 0), (1, 29, 1), (1, 29, 1_000_000), (1, 29, 1_000_001), (2, 29, 0))
 
 
 def put(title, s, commands, lengths={}, clause=False):
@@ -402,6 +447,19 @@ AUDIT_TRAILS = [
 ]
 
 
+# output, choice, weight, account. Each output follows a counter in litres and one at base conditions, one short of a weight and at it; then it is off.
+ACCOUNTS = []
+for output, litres, base, weight in ((1, 1, 4, 60), (2, 2, 5, 70), (3, 3, 6, 80), (4, 2, 6, 90)):
+    for choice in (litres, base):
+        ACCOUNTS += [(output, choice, weight, weight * LITRE[choice] - 1), (output, choice, weight, weight * LITRE[choice])]
+    ACCOUNTS += [(output, 0, weight, 0), (output, 0, weight, 1)]
+# the smallest weight and the largest
+for output, choice, weight in ((1, 1, 1), (2, 4, 1), (3, 3, 1_000_000), (4, 6, 1_000_000)):
+    ACCOUNTS += [(output, choice, weight, weight * LITRE[choice] - 1), (output, choice, weight, weight * LITRE[choice])]
+# a number of the other unit, and the largest number
+ACCOUNTS += [(1, 1, 100, 9_999_999), (2, 4, 100, 100), (3, 3, 100, MOST), (4, 6, 100, MOST), (1, 0, 100, MOST)]
+
+
 def amounts():
     """Each part at its highest, and past it; the totals are main plus disturbed under the rollover all the same."""
     rollovers = (LITRES, LITRES, BASE_UNITS, BASE_UNITS)
@@ -440,20 +498,26 @@ def clauses():
     for told in AUDIT_TRAILS:
         every("audit trail %d %d %d" % told, State().but(audit=told))
     for door in (1, 2):
-        for setting in (1, 21):
+        for setting in (1, 29):
             every("overtaken and not read %d %d" % (door, setting), State(2).with_cell(door, setting, overtaken=True))
     for door in (1, 2):
-        for setting in (1, 21):
+        for setting in (1, 29):
             s = State(2).with_session(door, Session())
             every("staged with no session %d %d" % (door, setting), s.with_cell(door, setting, staged=[1]))
             every("read with no session %d %d" % (door, setting), s.with_cell(door, setting, read=True))
+
+
+def accounts():
+    for output, choice, weight, account in ACCOUNTS:
+        every("output %d %d %d %d" % (output, choice, weight, account), State().with_output(output - 1, choice, weight, account))
 
 
 def values():
     for setting, (span, _, _) in TABLE.items():
         for v in [inf, -inf, nan, 0] if span is FINITE else [span[0] - 1, span[1] + 1, 1.0]:
             assert not fits(setting, v)
-            every("setting %d %s" % (setting, shown(v)), State().with_setting(setting, v))
+            # in force it breaks no account, because the outputs are off
+            every("setting %d %s" % (setting, shown(v)), State().outputs_off().with_setting(setting, v))
             for door in (1, 2):
                 every("staged %d %d %s" % (door, setting, shown(v)), State(2).with_cell(door, setting, staged=[v]))
     for low, m, n in ((7, 700_000, 700_000), (7, 700_001, 700_000), (9, 6_000, 6_000), (9, 6_001, 6_000)):
@@ -493,6 +557,7 @@ def order():
     put("one session", s, ALL)
     put("two sessions", two, ALL)
     put("all locks open", s.but(open={1, 2, 3}), ALL)
+    put("no pulse waits", s.but(outputs=[[0, 0, 0]] * OUTPUTS), ALL)
     put("month 39", s.not_whole(), ALL)
     put("cp code 16", s.with_setting(1, 16), ALL)
     put("time past the end", s.but(time=MOST, month=1_199), ALL)
@@ -515,6 +580,8 @@ REASONS = {
     "shut": ["not-whole", "length", "lock"],
     "clear": ["not-whole", "right"],
     "report": ["not-whole"],
+    "outputs": ["not-whole"],
+    "tick": ["not-whole", "long"],
     "log": ["not-whole", "length", "unheld"],
     "archive": ["not-whole", "length", "unheld"],
     "audit": ["not-whole", "length", "unheld"],
@@ -542,6 +609,7 @@ def all_tried():
 
 if __name__ == "__main__":
     clauses()
+    accounts()
     values()
     lengths()
     order()

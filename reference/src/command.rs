@@ -1,6 +1,7 @@
 //! The commands and answers of the bench as values, without their text.
 
 use crate::device::{ArchiveLine, AuditLine, Cycle, Device, LogLine, Refusal, Report, Value};
+use crate::output::{OutputReport, OUTPUTS};
 
 #[derive(Clone, Copy, Debug, PartialEq)]
 pub enum Command {
@@ -14,7 +15,9 @@ pub enum Command {
     Open { lock: u64, code: u32 },
     Shut { lock: u64 },
     Clear,
+    Tick { named: u64 },
     Report,
+    Outputs,
     Archive { index: u64 },
     Log { index: u64 },
     Audit { index: u64 },
@@ -25,7 +28,10 @@ pub enum Command {
 pub enum Done {
     Nothing,
     Value(Value),
+    /// The pulses that a tick took from each output.
+    Emitted([u64; OUTPUTS]),
     Report(Report),
+    Outputs([OutputReport; OUTPUTS]),
     Archive(ArchiveLine),
     Log(LogLine),
     Audit(AuditLine),
@@ -47,7 +53,9 @@ pub fn obey(device: &mut Device, command: &Command) -> Answer {
         Command::Open { lock, code } => device.open(lock, code).map(nothing),
         Command::Shut { lock } => device.shut(lock).map(nothing),
         Command::Clear => device.clear().map(nothing),
+        Command::Tick { named } => device.tick(named).map(Done::Emitted),
         Command::Report => device.report().map(Done::Report),
+        Command::Outputs => device.outputs().map(Done::Outputs),
         Command::Archive { index } => device.archive(index).map(Done::Archive),
         Command::Log { index } => device.log(index).map(Done::Log),
         Command::Audit { index } => device.audit(index).map(Done::Audit),

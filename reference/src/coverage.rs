@@ -6,17 +6,19 @@ use std::fmt::Write;
 use crate::calendar::{first_day, month_of_day, SECONDS_A_DAY, SIX_O_CLOCK};
 use crate::command::{obey, Command};
 use crate::device::{
-    factor, measured_temperature, temperature_float, Counters, Device, Totals, Value, ALARM_K,
-    ALARM_P, ALARM_T, ARCHIVE_LINES, AUDIT_LINES, KELVIN, LOG_LINES,
+    factor, measured_temperature, temperature_float, Cells, Counters, Device, Totals, Value,
+    ALARM_K, ALARM_P, ALARM_T, ARCHIVE_LINES, AUDIT_LINES, KELVIN, LOG_LINES, OUTPUT_ROWS,
+    VB_MODULUS, VM_MODULUS,
 };
 use crate::lines::{read_line, write_answer, Line};
+use crate::output::{Output, BUFFER, CHOICES, LOST_MODULUS, OFF, OUTPUTS, TICK_LIMIT};
 use crate::script::Script;
 
 /// The commands, with the answers that can be reached through lines. Refusals
 /// 1 and 14 are not among them: a device that is only given commands stays
 /// whole, and within the ranges of the settings no cycle's amount is a tenth
 /// of 10^17.
-const COMMANDS: [(&str, &[u8]); 14] = [
+const COMMANDS: [(&str, &[u8]); 16] = [
     ("start", &[0, 6]),
     ("cycle", &[0, 5, 6, 7]),
     ("begin", &[0, 2, 3]),
@@ -31,8 +33,10 @@ const COMMANDS: [(&str, &[u8]); 14] = [
     ("archive", &[0, 13]),
     ("log", &[0, 13]),
     ("audit", &[0, 13]),
+    ("tick", &[0, 15]),
+    ("outputs", &[0]),
 ];
-const NUMBERS: usize = 15;
+const NUMBERS: usize = 16;
 
 fn row_of(command: &Command) -> usize {
     match command {
@@ -50,6 +54,8 @@ fn row_of(command: &Command) -> usize {
         Command::Archive { .. } => 11,
         Command::Log { .. } => 12,
         Command::Audit { .. } => 13,
+        Command::Tick { .. } => 14,
+        Command::Outputs => 15,
     }
 }
 
@@ -114,9 +120,57 @@ enum Event {
     StaleAndPair,
     LockMissingAndPair,
     StartRefusedInUse,
+    // These and those after them are of request Three.
+    VmFollowed,
+    VmDisturbedFollowed,
+    VmTotalFollowed,
+    VbFollowed,
+    VbDisturbedFollowed,
+    VbTotalFollowed,
+    OtherSideGained,
+    LitresAtWeight,
+    BaseAtWeight,
+    LitreShort,
+    BaseShort,
+    ManyDue,
+    BufferJustFull,
+    OneLost,
+    FirstOverflow,
+    SecondOverflow,
+    ThirdOverflow,
+    FourthOverflow,
+    FourOverflows,
+    OverflowWithAlarmLine,
+    OverflowIntoFullLog,
+    LostInOneCycle,
+    LostExactTurn,
+    DueWithSmallLowerHalf,
+    LostRollover,
+    FollowedLitresRollover,
+    FollowedBaseRollover,
+    DroppedByChoice,
+    DroppedByWeight,
+    DroppedAndOtherKept,
+    KeptAtSameChoice,
+    KeptAtSameWeight,
+    OffWithPulsesWaiting,
+    OffWithPulsesLost,
+    StartWithPulsesWaiting,
+    TickOfNone,
+    TickOfMost,
+    TickTookNamed,
+    TickTookFewer,
+    TickTookLast,
+    TickFromOff,
+    TickInSession,
+    TickRefusedByOne,
+    StaleByOutput,
+    LockMissingForOutput,
+    ChoiceRefused,
+    WeightRefused,
 }
 
-const EVENTS: [&str; 59] = [
+const EVENTS: [&str; 106] = [
     "pressure alarm came",
     "temperature alarm came",
     "K alarm came",
@@ -176,7 +230,67 @@ const EVENTS: [&str; 59] = [
     "stale, and a pair out of order",
     "a lock missing, and a pair out of order",
     "refused start of a device in use",
+    "output on Vm gained",
+    "output on VmD gained",
+    "output on VmT gained",
+    "output on Vb gained",
+    "output on VbD gained",
+    "output on VbT gained",
+    "gain on the other side than an output follows",
+    "account in litres exactly at its weight: one pulse, nothing left",
+    "account at base conditions exactly at its weight: one pulse, nothing left",
+    "account one litre short of its weight",
+    "account ten hundred-thousandths short of its weight, the least there is",
+    "1,000 pulses or more due at once",
+    "buffer filled to exactly 65,535, none lost",
+    "one pulse lost",
+    "output 1 overflowed, line 51",
+    "output 2 overflowed, line 52",
+    "output 3 overflowed, line 53",
+    "output 4 overflowed, line 54",
+    "all four overflowed in one cycle",
+    "overflow in a cycle with an alarm line",
+    "overflow with a full logbook",
+    "more than 2^32 pulses lost in one cycle",
+    "exactly 2^32 pulses lost in one cycle",
+    "more than 2^32 pulses due, whose lower 32 bits alone would find room",
+    "lost counter rolled over",
+    "output followed a counter in litres through its rollover",
+    "output followed a counter at base conditions through its rollover",
+    "commit of a new choice dropped an account",
+    "commit of a new weight dropped an account",
+    "commit dropped one account and kept another",
+    "commit of the same choice kept an account",
+    "commit of the same weight kept an account",
+    "output switched off with pulses waiting",
+    "output switched off with pulses lost",
+    "start with pulses waiting",
+    "tick of 0 with pulses waiting",
+    "tick of 600 took 600",
+    "tick took what it named",
+    "tick took fewer than it named",
+    "tick took the very last pulse that waited",
+    "tick took from an output that is off",
+    "tick in the middle of a session",
+    "tick of 601 refused",
+    "stale by a setting of an output",
+    "lock missing for settings of outputs alone",
+    "choice refused as out of range or of the wrong kind",
+    "weight refused as out of range or of the wrong kind",
 ];
+
+/// The event of a gain, by choice; an output that is off has none.
+const FOLLOWED: [Option<Event>; CHOICES] = [
+    None,
+    Some(Event::VmFollowed),
+    Some(Event::VmDisturbedFollowed),
+    Some(Event::VmTotalFollowed),
+    Some(Event::VbFollowed),
+    Some(Event::VbDisturbedFollowed),
+    Some(Event::VbTotalFollowed),
+];
+const OVERFLOW: [Event; OUTPUTS] =
+    [Event::FirstOverflow, Event::SecondOverflow, Event::ThirdOverflow, Event::FourthOverflow];
 
 #[derive(Clone)]
 pub struct Coverage {
@@ -261,6 +375,8 @@ impl Coverage {
         }
         match *command {
             Command::Start { .. } => {
+                let waiting = before.outputs.iter().any(|output| output.waiting > 0);
+                self.saw_if(waiting, Event::StartWithPulsesWaiting);
                 self.saw_if(number == 6 && before.in_use, Event::StartRefusedInUse);
                 if number == 0 {
                     self.observe_start(after);
@@ -271,6 +387,7 @@ impl Coverage {
                 self.observe_counters(before, after);
                 self.observe_months(before, after);
                 self.observe_six(before, after);
+                self.observe_outputs(before, after);
                 let mode = |setting| matches!(after.in_force(setting), Value::Whole(1));
                 let failed =
                     [(4, cycle.p.is_none()), (5, cycle.raw.is_none()), (6, cycle.k.is_none())];
@@ -310,8 +427,14 @@ impl Coverage {
                 self.saw_if(before.staged >> (setting - 1) & 1 == 1, Event::StagedValueRead);
                 self.saw_if((11..=13).contains(&setting), Event::CoefficientRead);
             }
+            Command::Write { setting, .. } if number == 9 => {
+                self.saw_if((22..=25).contains(&setting), Event::ChoiceRefused);
+                self.saw_if((26..=29).contains(&setting), Event::WeightRefused);
+            }
+            Command::Tick { named } => self.observe_tick(named, number, before, after),
             Command::Commit { door } => {
                 if number == 0 {
+                    self.observe_new_settings(before, after);
                     self.saw_if(before.staged.count_ones() > 1, Event::CommitSeveral);
                     self.saw_if(before.staged == 0, Event::CommitNothing);
                     self.saw_if(before.equal_value, Event::CommitEqualValue);
@@ -323,8 +446,99 @@ impl Coverage {
                 self.saw_if(number == 10 && stale, Event::StaleAndLockMissing);
                 self.saw_if(number == 11 && before.pair, Event::StaleAndPair);
                 self.saw_if(number == 10 && before.pair, Event::LockMissingAndPair);
+                self.saw_if(number == 11 && before.moved & OUTPUT_ROWS != 0, Event::StaleByOutput);
+                let others = before.staged & !OUTPUT_ROWS != 0;
+                self.saw_if(number == 10 && !others, Event::LockMissingForOutput);
             }
             _ => {}
+        }
+    }
+
+    /// What an accepted cycle did to the outputs. The gains are read off the
+    /// counters: each is below its modulus.
+    fn observe_outputs(&mut self, before: &Before, after: &Device) {
+        let gains = Steps::between(before, after);
+        let alarm_line = after.present != before.present;
+        let mut overflows = 0;
+        for (place, (old, new)) in before.outputs.iter().zip(&after.outputs).enumerate() {
+            let choice = after.choice(place);
+            let Some(followed) = FOLLOWED[choice] else { continue };
+            let Step { gain, rolled } = gains.0[choice];
+            let litres = choice <= 3;
+            self.saw_if(gain > 0, followed);
+            self.saw_if(gain == 0 && gains.0[3].gain > 0, Event::OtherSideGained);
+            let rollover =
+                if litres { Event::FollowedLitresRollover } else { Event::FollowedBaseRollover };
+            self.saw_if(rolled, rollover);
+
+            let weight = after.weight(place);
+            let sum = old.account + gain;
+            let exact = if litres { Event::LitresAtWeight } else { Event::BaseAtWeight };
+            self.saw_if(gain > 0 && sum == weight, exact);
+            self.saw_if(gain > 0 && litres && sum == weight - 1, Event::LitreShort);
+            self.saw_if(gain > 0 && !litres && sum == weight - 10, Event::BaseShort);
+
+            let due = sum / weight;
+            let excess = due - (new.waiting - old.waiting);
+            self.saw_if(due >= 1_000, Event::ManyDue);
+            let just_full = due > 0 && excess == 0 && new.waiting == BUFFER;
+            self.saw_if(just_full, Event::BufferJustFull);
+            if excess > 0 {
+                overflows += 1;
+                self.saw(OVERFLOW[place]);
+                self.saw_if(excess == 1, Event::OneLost);
+                self.saw_if(alarm_line, Event::OverflowWithAlarmLine);
+                self.saw_if(before.log_held == LOG_LINES, Event::OverflowIntoFullLog);
+                self.saw_if(excess > LOST_MODULUS, Event::LostInOneCycle);
+                self.saw_if(excess == LOST_MODULUS, Event::LostExactTurn);
+                let lower = due > LOST_MODULUS && due % LOST_MODULUS <= BUFFER - old.waiting;
+                self.saw_if(lower, Event::DueWithSmallLowerHalf);
+                self.saw_if(old.lost + excess >= LOST_MODULUS, Event::LostRollover);
+            }
+        }
+        self.saw_if(overflows == OUTPUTS, Event::FourOverflows);
+    }
+
+    /// What a commit that was done did to the accounts.
+    fn observe_new_settings(&mut self, before: &Before, after: &Device) {
+        let (mut dropped, mut kept) = (false, false);
+        for (place, old) in before.outputs.iter().enumerate() {
+            let rows = [21 + place, 25 + place];
+            let [choice_staged, weight_staged] = rows.map(|row| before.staged >> row & 1 == 1);
+            let [choice_differs, weight_differs] =
+                rows.map(|row| before.settings[row] != after.settings[row]);
+            if old.account > 0 {
+                self.saw_if(choice_differs && !weight_differs, Event::DroppedByChoice);
+                self.saw_if(weight_differs && !choice_differs, Event::DroppedByWeight);
+                let differs = choice_differs || weight_differs;
+                dropped |= differs;
+                kept |= !differs;
+                self.saw_if(choice_staged && !differs, Event::KeptAtSameChoice);
+                self.saw_if(weight_staged && !differs, Event::KeptAtSameWeight);
+            }
+            if choice_differs && after.choice(place) == OFF {
+                self.saw_if(old.waiting > 0, Event::OffWithPulsesWaiting);
+                self.saw_if(old.lost > 0, Event::OffWithPulsesLost);
+            }
+        }
+        self.saw_if(dropped && kept, Event::DroppedAndOtherKept);
+    }
+
+    fn observe_tick(&mut self, named: u64, number: u8, before: &Before, after: &Device) {
+        if number != 0 {
+            self.saw_if(named == TICK_LIMIT + 1, Event::TickRefusedByOne);
+            return;
+        }
+        let open = after.sessions.iter().any(|session| session.open);
+        self.saw_if(open, Event::TickInSession);
+        for (place, (old, new)) in before.outputs.iter().zip(&after.outputs).enumerate() {
+            let emitted = old.waiting - new.waiting;
+            self.saw_if(named == 0 && old.waiting > 0, Event::TickOfNone);
+            self.saw_if(emitted == TICK_LIMIT, Event::TickOfMost);
+            self.saw_if(emitted > 0 && new.waiting > 0, Event::TickTookNamed);
+            self.saw_if(emitted > 0 && emitted < named, Event::TickTookFewer);
+            self.saw_if(emitted > 0 && emitted == named && new.waiting == 0, Event::TickTookLast);
+            self.saw_if(emitted > 0 && after.choice(place) == OFF, Event::TickFromOff);
         }
     }
 
@@ -464,6 +678,39 @@ impl Coverage {
     }
 }
 
+/// What a counter gained in a cycle, and whether it rolled over.
+#[derive(Clone, Copy, Default)]
+struct Step {
+    gain: u64,
+    rolled: bool,
+}
+
+impl Step {
+    fn between(old: u64, new: u64, modulus: u64) -> Step {
+        Step { gain: (new + modulus - old) % modulus, rolled: new < old }
+    }
+}
+
+/// The same of all counters, by the choice that follows them.
+struct Steps([Step; CHOICES]);
+
+impl Steps {
+    fn between(before: &Before, after: &Device) -> Steps {
+        let vm = |old, new| Step::between(old, new, VM_MODULUS);
+        let vb = |old, new| Step::between(old, new, VB_MODULUS);
+        let (old, new) = (&before.counters, &after.counters);
+        Steps([
+            Step::default(),
+            vm(old.vm, new.vm),
+            vm(old.vm_disturbed, new.vm_disturbed),
+            vm(before.totals.vm, after.totals.vm),
+            vb(old.vb, new.vb),
+            vb(old.vb_disturbed, new.vb_disturbed),
+            vb(before.totals.vb, after.totals.vb),
+        ])
+    }
+}
+
 /// The seconds since midnight, if the time lies on a first: the first day of a
 /// month. The first day of all is none, because no month is before it.
 fn on_a_first(time: u64) -> Option<u64> {
@@ -497,6 +744,8 @@ struct Before {
     month: u32,
     counters: Counters,
     totals: Totals,
+    outputs: [Output; OUTPUTS],
+    settings: Cells,
     present: u8,
     latched: u8,
     locks: [bool; 3],
@@ -537,6 +786,8 @@ impl Before {
             month: device.month,
             counters: device.counters,
             totals: device.totals,
+            outputs: device.outputs,
+            settings: device.settings,
             present: device.present,
             latched: device.latched,
             locks: device.locks,
@@ -619,6 +870,38 @@ mod tests {
                 let count = coverage.events[event];
                 assert!(count >= 10, "seed {seed}: {count} {}", EVENTS[event]);
             }
+        }
+    }
+
+    /// The random scripts must come to everything of the outputs again and
+    /// again, without the long script and whatever the seed.
+    #[test]
+    fn random_scripts_come_to_the_outputs_often() {
+        for seed in [0, 1, 2, 3, 1_000_003, u64::MAX] {
+            let mut rng = Rng::new(seed);
+            let mut coverage = Coverage::new();
+            while coverage.answered() < 200_000 {
+                coverage.answer(&random_script(&mut rng));
+            }
+            for event in Event::VmFollowed as usize..EVENTS.len() {
+                let count = coverage.events[event];
+                // No counter in litres comes so far in a random script.
+                let long = event == Event::FollowedLitresRollover as usize;
+                assert!(count >= 10 || long, "seed {seed}: {count} {}", EVENTS[event]);
+            }
+        }
+    }
+
+    /// The long script alone leads an output through each rollover.
+    #[test]
+    fn the_long_script_follows_counters_through_their_rollover() {
+        for seed in [0, 1, u64::MAX] {
+            let mut coverage = Coverage::new();
+            coverage.answer(&long_script(&mut Rng::new(seed)));
+            // Vm, VmD, and VmT twice; VbT and Vb.
+            let count = |event: Event| coverage.events[event as usize];
+            assert!(count(Event::FollowedLitresRollover) >= 4, "seed {seed}");
+            assert!(count(Event::FollowedBaseRollover) >= 2, "seed {seed}");
         }
     }
 

@@ -10,9 +10,10 @@ use crate::calendar::{first_midnight, first_second, month_of_time, SIX_O_CLOCK};
 use crate::command::{obey, Command};
 use crate::device::{
     temperature_float, Cycle, Device, Range, Value, ARCHIVE_LINES, AUDIT_LINES, LOG_LINES, N_LIMIT,
-    RULES, SETTINGS, TIME_LIMIT, VB_MODULUS, VM_MODULUS,
+    PULSE, RULES, SETTINGS, TIME_LIMIT, VB_MODULUS, VM_MODULUS,
 };
 use crate::lines::{read_line, write_command, Line, LONGEST_LINE};
+use crate::output::{Output, BUFFER, OFF, OUTPUTS, TICK_LIMIT};
 use crate::script::Script;
 
 /// A small generator of random numbers (SplitMix64): the same seed gives the
@@ -65,6 +66,9 @@ pub fn random_script(rng: &mut Rng) -> Script {
     // Without a start the device must be as start time 0 and codes 0 give.
     if writer.rng.percent(80) {
         writer.start();
+    }
+    if writer.rng.percent(50) {
+        writer.turn_outputs_on();
     }
     while writer.lines.len() < length {
         writer.stretch();
@@ -129,6 +133,12 @@ pub fn long_script(rng: &mut Rng) -> Script {
     writer.say(Command::Start { time: 0, code2: codes[0], code3: codes[1] });
     writer.say(Command::Open { lock: 1, code: 0 });
     writer.put_in_force(1, &[(1, Value::Whole(4)), (6, Value::Whole(1))]);
+    // The outputs follow their counters through the rollover. Of each some 60
+    // pulses are due a cycle at most, which the ticks take again.
+    let choices = [1, 2, 3, 4].map(Value::Whole);
+    let weights = [999_999, 1_000_000, 999_983, 987_654].map(Value::Whole);
+    let outputs: Vec<(usize, Value)> = (22..).zip(choices.into_iter().chain(weights)).collect();
+    writer.put_in_force(2, &outputs);
     // 60,000,000 litres a cycle, every second one disturbed, and six logbook
     // lines every two cycles. Vm lands on its modulus exactly and Vb, at a
     // factor of 1, on its own; VmD passes over it. Half way there, with both
@@ -148,6 +158,10 @@ pub fn long_script(rng: &mut Rng) -> Script {
         }));
         if round % 64 == 0 || writer.near_rollover() {
             writer.say(Command::Report);
+            writer.say(Command::Outputs);
+        }
+        if round % 8 == 0 {
+            writer.say(Command::Tick { named: TICK_LIMIT });
         }
         if round % 256 == 0 || (21_750..21_950).contains(&round) {
             let index = writer.rng.below(4);
@@ -155,8 +169,8 @@ pub fn long_script(rng: &mut Rng) -> Script {
         }
     }
     writer.dump();
-    // All 21 settings at every commit, at either door in turn.
-    for round in 0..3_150_u64 {
+    // All 29 settings at every commit, at either door in turn.
+    for round in 0..2_290_u64 {
         let door = 1 + round % 2;
         writer.say(Command::Begin { door });
         for setting in 1..=SETTINGS {
@@ -173,7 +187,7 @@ pub fn long_script(rng: &mut Rng) -> Script {
             }
         }
         writer.say(Command::Commit { door });
-        if round % 64 == 0 || round > 3_115 {
+        if round % 64 == 0 || round > 2_255 {
             let index = writer.rng.below(AUDIT_LINES as u64);
             writer.say(Command::Audit { index });
             writer.say(Command::Audit { index: 0 });
@@ -184,8 +198,9 @@ pub fn long_script(rng: &mut Rng) -> Script {
     writer.finish()
 }
 
-/// Commands for the measure of speed: working days with every command in them,
-/// well formed and mostly accepted.
+/// Commands for the measure of speed: working days with every command of
+/// document 01 in them, well formed and mostly accepted. They stay as they are,
+/// so that figures can be compared from one request to the next.
 pub fn mixed_commands(seed: u64, count: usize) -> Vec<Command> {
     let mut rng = Rng::new(seed);
     let mut writer = Writer::new(&mut rng);
@@ -304,7 +319,7 @@ impl<'a> Writer<'a> {
         if self.model.time > TIME_LIMIT - 40_000_000 && self.rng.percent(70) {
             self.start();
         }
-        match self.rng.below(12) {
+        match self.rng.below(16) {
             0 | 1 => {
                 while self.lines.len() < until {
                     self.everyday();
@@ -315,9 +330,10 @@ impl<'a> Writer<'a> {
             5 => self.pairs(until),
             6 => self.calendar(until),
             7 => self.books(until),
-            8 => self.coefficients(until),
+            8 | 14 => self.coefficients(until),
             9 => self.big_factor(),
             10 => self.halves(),
+            11..=13 => self.boiler_house(until),
             _ => {
                 while self.lines.len() < until {
                     self.anything();
@@ -326,6 +342,9 @@ impl<'a> Writer<'a> {
         }
         if self.rng.percent(50) {
             self.say(Command::Report);
+        }
+        if self.rng.percent(50) {
+            self.say(Command::Outputs);
         }
     }
 
@@ -346,6 +365,8 @@ impl<'a> Writer<'a> {
                 self.say(Command::Shut { lock });
             }
             90..=92 => self.say(Command::Clear),
+            93 | 94 => self.tick(),
+            95 => self.say(Command::Outputs),
             _ => self.anything(),
         }
     }
@@ -364,6 +385,9 @@ impl<'a> Writer<'a> {
             self.odd_cycle();
             if self.rng.percent(25) {
                 self.say(Command::Report);
+            }
+            if self.rng.percent(5) {
+                self.say(Command::Outputs);
             }
             if self.rng.percent(10) {
                 let index = self.rng.below(7);
@@ -408,10 +432,11 @@ impl<'a> Writer<'a> {
                 62..=83 => self.say(Command::Commit { door }),
                 84..=87 => self.say(Command::Abandon { door }),
                 88..=89 => self.say(Command::Begin { door }),
-                90..=92 => {
+                90 | 91 => {
                     let index = self.rng.below(4);
                     self.say(Command::Audit { index });
                 }
+                92 => self.tick(),
                 93..=95 => self.everyday_cycle(),
                 96..=97 => {
                     let lock = 1 + self.rng.below(3);
@@ -651,13 +676,74 @@ impl<'a> Writer<'a> {
                 (16, Value::Whole(5_000)),
             ],
         );
+        // At a litre a pulse more than 2^32 pulses are due in each cycle.
+        if self.rng.percent(60) {
+            self.small_weights();
+        }
         for _ in 0..20 + self.rng.below(90) {
             self.pressure_cycle(N_LIMIT, |_| measured.then_some(10_000_000));
             if self.rng.percent(30) {
                 self.say(Command::Report);
             }
+            if self.rng.percent(10) {
+                self.tick();
+            }
+            if self.rng.percent(15) {
+                self.say(Command::Outputs);
+            }
         }
         self.back_to_factory(2, &[1, 2, 3, 5, 8, 14, 15, 16]);
+    }
+
+    /// The outputs: accounts around their weights, buffers around their end,
+    /// ticks, and sessions at both doors over their settings.
+    fn boiler_house(&mut self, until: usize) {
+        // Once full, a buffer is empty again only after many ticks, or a start.
+        if self.rng.one_in(3) {
+            self.start();
+        }
+        self.open_lock(1);
+        let code = self.rng.pick(&[0, 0, 0, 0, 1, 1, 2, 3, 4]);
+        self.plain_factor(code);
+        self.turn_outputs_on();
+        while self.lines.len() < until {
+            match self.rng.below(100) {
+                0..=21 => self.output_session(),
+                22..=49 => self.account_cycle(),
+                50..=56 => self.fill_a_buffer(),
+                57..=62 => self.everyday_cycle(),
+                63..=76 => self.tick(),
+                77..=90 => self.say(Command::Outputs),
+                91..=93 => {
+                    let index = self.rng.below(6);
+                    self.say(Command::Log { index });
+                }
+                94 => {
+                    let index = self.rng.below(6);
+                    self.say(Command::Audit { index });
+                }
+                95 => self.say(Command::Report),
+                96 => self.small_weights(),
+                97 => {
+                    // Rights count at the commit.
+                    self.say(Command::Shut { lock: 1 });
+                    self.say(Command::Shut { lock: 2 });
+                    self.output_session();
+                    let lock = 1 + self.rng.below(2);
+                    self.open_lock(lock);
+                }
+                98 => {
+                    self.open_lock(1);
+                    self.full_turn();
+                    self.plain_factor(code);
+                }
+                _ => self.open_lock(1),
+            }
+        }
+        if self.rng.percent(70) {
+            self.open_lock(1);
+            self.back_to_factory(1, &[1, 2, 5, 6, 7, 8, 15, 16]);
+        }
     }
 
     /// VbT lands on its modulus exactly while Vb and VbD are about half way.
@@ -673,11 +759,18 @@ impl<'a> Writer<'a> {
                 (14, Value::Whole(10_000_000)),
                 (15, Value::Whole(0)),
                 (16, Value::Whole(5_000)),
+                // The outputs follow VbT, Vb, VbD and VmT.
+                (22, Value::Whole(6)),
+                (23, Value::Whole(4)),
+                (24, Value::Whole(5)),
+                (25, Value::Whole(3)),
+                (26, Value::Whole(1_000_000)),
             ],
         );
         // The factor is 200, measured or not, so that a pulse of 100,000 litres
         // is 2 x 10^12 and 50,000 pulses are 10^17. Every second cycle is
-        // disturbed, and so is the one that lands, the 84th.
+        // disturbed, and so is the one that lands, the 84th. Each large cycle
+        // makes 12,000 pulses due at output 1.
         let mut left = 50_000;
         let mut disturbed = false;
         while left > 0 {
@@ -685,6 +778,7 @@ impl<'a> Writer<'a> {
             left -= n;
             self.pressure_cycle(n, |_| (!disturbed).then_some(10_000_000));
             self.say(Command::Report);
+            self.say(Command::Outputs);
             disturbed = !disturbed;
         }
     }
@@ -716,9 +810,13 @@ impl<'a> Writer<'a> {
 
     /// Any command with any arguments.
     fn anything(&mut self) {
-        let command = match self.rng.below(120) {
+        let command = match self.rng.below(132) {
             0 => {
                 self.start();
+                return;
+            }
+            120..=127 => {
+                self.tick();
                 return;
             }
             1..=20 => {
@@ -758,7 +856,8 @@ impl<'a> Writer<'a> {
                 Command::Archive { index: self.index(self.model.archive.held, ARCHIVE_LINES) }
             }
             108..=113 => Command::Log { index: self.index(self.model.log.held, LOG_LINES) },
-            _ => Command::Audit { index: self.index(self.model.audit_held(), AUDIT_LINES) },
+            114..=119 => Command::Audit { index: self.index(self.model.audit_held(), AUDIT_LINES) },
+            _ => Command::Outputs,
         };
         self.say(command);
     }
@@ -865,6 +964,192 @@ impl<'a> Writer<'a> {
         }
     }
 
+    /// With these settings the factor is p, so that a cycle's amount can be
+    /// chosen to the last ten hundred-thousandths. A K not computed then makes a
+    /// cycle disturbed and changes nothing else.
+    fn plain_factor(&mut self, code: i64) {
+        let door = 1 + self.rng.below(2);
+        self.put_in_force(
+            door,
+            &[
+                (1, Value::Whole(code)),
+                (2, Value::Whole(100_000)),
+                (3, Value::Whole(27_315)),
+                (4, Value::Whole(1)),
+                (5, Value::Whole(0)),
+                (6, Value::Whole(1)),
+                (7, Value::Whole(10_000)),
+                (8, Value::Whole(10_000_000)),
+                (15, Value::Whole(0)),
+                (16, Value::Whole(10_000)),
+            ],
+        );
+    }
+
+    /// Puts some choices and weights in force.
+    fn turn_outputs_on(&mut self) {
+        let lock = 1 + self.rng.below(2);
+        self.open_lock(lock);
+        let mut values = Vec::new();
+        for output in 0..OUTPUTS {
+            if self.rng.percent(80) {
+                values.push((22 + output, Value::Whole(self.rng.between(1, 6))));
+                values.push((26 + output, Value::Whole(self.weight())));
+            }
+        }
+        let door = 1 + self.rng.below(2);
+        self.put_in_force(door, &values);
+    }
+
+    /// Weights at which any larger cycle fills a buffer. A total gains in every
+    /// cycle, so that mostly all four fill together.
+    fn small_weights(&mut self) {
+        let totals = self.rng.percent(80);
+        let mut values = Vec::new();
+        for output in 0..OUTPUTS {
+            let choice = if totals { self.rng.pick(&[3, 6]) } else { self.rng.between(0, 6) };
+            values.push((22 + output, Value::Whole(choice)));
+            values.push((26 + output, Value::Whole(self.rng.pick(&[1, 1, 1, 2, 3, 10]))));
+        }
+        let door = 1 + self.rng.below(2);
+        self.put_in_force(door, &values);
+    }
+
+    /// Cycles of 2^32 litres at base conditions, or a few more: 512 pulses of
+    /// 100,000 litres at a factor of 83.88608. At a litre a pulse a lost counter
+    /// comes round to where it stood.
+    fn full_turn(&mut self) {
+        self.plain_factor(4);
+        self.small_weights();
+        for _ in 0..3 {
+            let more = self.rng.below(3);
+            self.pressure_cycle(512, |_| Some(8_388_608 + more));
+            self.say(Command::Outputs);
+            self.say(Command::Log { index: 0 });
+            if self.rng.percent(50) {
+                self.tick();
+            }
+        }
+    }
+
+    /// A session over choices and weights: new ones, and those in force once
+    /// more. Cycles and ticks come in between.
+    fn output_session(&mut self) {
+        let door = 1 + self.rng.below(2);
+        if !self.model.sessions[door as usize - 1].open {
+            self.say(Command::Begin { door });
+        }
+        for _ in 0..1 + self.rng.below(3) {
+            let setting = 22 + self.rng.below(2 * OUTPUTS as u64) as usize;
+            if self.rng.percent(15) {
+                self.say(Command::Read { door, setting: setting as u64 });
+            }
+            let value = self.output_value(setting);
+            self.say(Command::Write { door, setting: setting as u64, value });
+            match self.rng.below(12) {
+                0 => self.tick(),
+                1 => self.account_cycle(),
+                2 => self.say(Command::Outputs),
+                _ => {}
+            }
+        }
+        match self.rng.below(20) {
+            0 => {}
+            1 => self.say(Command::Abandon { door }),
+            _ => self.say(Command::Commit { door }),
+        }
+        if self.rng.percent(50) {
+            self.say(Command::Outputs);
+        }
+    }
+
+    /// A cycle that brings an output's account to its weight or beside it, or
+    /// a few weights further.
+    fn account_cycle(&mut self) {
+        let output = self.rng.below(OUTPUTS as u64) as usize;
+        let weight = self.model.weight(output);
+        let weights = if self.rng.percent(60) { 1 } else { 1 + self.rng.below(12) };
+        let needed = weights * weight - self.model.outputs[output].account;
+        // No cycle's gain ends in another digit than 0.
+        let gain = match self.rng.below(10) {
+            0..=4 => needed,
+            5..=7 => needed.saturating_sub(10),
+            8 => needed + 10,
+            _ => self.rng.below(needed + 1),
+        };
+        self.cycle_that_gains(output, gain);
+    }
+
+    /// A cycle that fills what is left of a buffer, or misses that by a pulse.
+    /// Where that is too much for one cycle, a large one.
+    fn fill_a_buffer(&mut self) {
+        let output = self.rng.below(OUTPUTS as u64) as usize;
+        if self.rng.percent(50) {
+            self.tick();
+        }
+        let Output { account, waiting, .. } = self.model.outputs[output];
+        let room = BUFFER - waiting;
+        let pulses = match self.rng.below(6) {
+            0 => room.saturating_sub(1),
+            1 => room + 1,
+            _ => room,
+        };
+        let weight = self.model.weight(output);
+        self.cycle_that_gains(output, (pulses * weight).saturating_sub(account));
+        if self.rng.percent(50) {
+            self.say(Command::Outputs);
+        }
+    }
+
+    /// A cycle in which an output's counter gains this much, or as little more
+    /// as there can be, where the settings are those of `plain_factor` and one
+    /// cycle can bring it.
+    fn cycle_that_gains(&mut self, output: usize, gain: u64) {
+        let choice = self.model.choice(output);
+        let disturbed = match choice {
+            OFF | 3 | 6 => self.rng.percent(40),
+            2 | 5 => !self.rng.one_in(12),
+            _ => self.rng.one_in(12),
+        };
+        let pulse = PULSE[self.whole_in_force(1) as usize];
+        let pulses = gain.div_ceil(pulse);
+        let (n, p) = if choice <= 3 {
+            (pulses, self.rng.between(10_000, 10_000_000) as u64)
+        } else {
+            // What is called pulses here is n times the factor.
+            let n = pulses.div_ceil(10_000_000).max(1);
+            (n, pulses.div_ceil(n).max(10_000))
+        };
+        let time = self.model.time + self.rng.below(100);
+        self.say(Command::Cycle(Cycle {
+            time: time.min(TIME_LIMIT - 1),
+            n: n.min(N_LIMIT),
+            raw: None,
+            p: Some(p.min(10_000_000)),
+            k: (!disturbed).then_some(10_000),
+        }));
+    }
+
+    fn tick(&mut self) {
+        let waiting = self.rng.pick(&self.model.outputs).waiting;
+        let named = match self.rng.below(20) {
+            0 => 0,
+            1 | 2 => 1,
+            3..=5 => self.rng.below(12),
+            6 => TICK_LIMIT - 1,
+            7 | 8 => TICK_LIMIT,
+            9 => TICK_LIMIT + 1,
+            10 => self.rng.pick(&[602, 1_000, 65_535, 65_536, 1 << 32, (1 << 32) + 5, u64::MAX]),
+            11..=13 => waiting.min(TICK_LIMIT),
+            14 => (waiting + 1).min(TICK_LIMIT),
+            15 => waiting.saturating_sub(1).min(TICK_LIMIT),
+            // Tens, as the cycles bring them.
+            16 => 10 * self.rng.below(61),
+            _ => self.rng.below(TICK_LIMIT + 1),
+        };
+        self.say(Command::Tick { named });
+    }
+
     /// Begins afresh at a door and puts values in force there, if the locks
     /// that stand open allow it.
     fn put_in_force(&mut self, door: u64, values: &[(usize, Value)]) {
@@ -897,6 +1182,7 @@ impl<'a> Writer<'a> {
     /// All that can be seen of the device.
     fn dump(&mut self) {
         self.say(Command::Report);
+        self.say(Command::Outputs);
         self.whole_archive();
         for index in 0..=LOG_LINES as u64 {
             self.say(Command::Log { index });
@@ -917,6 +1203,7 @@ impl<'a> Writer<'a> {
     /// Most of what can be seen, in a few lines.
     fn glance(&mut self) {
         self.say(Command::Report);
+        self.say(Command::Outputs);
         for _ in 0..6 {
             self.look();
         }
@@ -1076,7 +1363,7 @@ impl<'a> Writer<'a> {
     fn setting(&mut self) -> u64 {
         match self.rng.below(30) {
             0 => 0,
-            1 => self.rng.pick(&[22, 23, 255, 257, 1 << 32 | 5, u64::MAX]),
+            1 => self.rng.pick(&[30, 31, 255, 257, 1 << 32 | 5, u64::MAX]),
             _ => 1 + self.rng.below(SETTINGS as u64),
         }
     }
@@ -1201,6 +1488,30 @@ impl<'a> Writer<'a> {
             (Range::Finite, 7 | 8) => odd_whole(self.rng),
             _ if self.rng.percent(50) => odd_float(self.rng),
             _ => odd_whole(self.rng),
+        }
+    }
+
+    /// A value for one of the settings 22 to 29.
+    fn output_value(&mut self, setting: usize) -> Value {
+        match self.rng.below(20) {
+            0..=6 => self.model.in_force(setting),
+            7 => self.good_value(setting),
+            8 => self.any_value(setting),
+            9 | 10 if setting < 26 => Value::Whole(0),
+            _ if setting < 26 => Value::Whole(self.rng.between(1, 6)),
+            _ => Value::Whole(self.weight()),
+        }
+    }
+
+    /// A weight that a cycle or two can fill; now and then any.
+    fn weight(&mut self) -> i64 {
+        match self.rng.below(12) {
+            0 | 1 => 1,
+            2..=4 => self.rng.pick(&[10, 100, 1_000, 10_000, 100_000]),
+            5..=7 => self.rng.pick(&[11, 21, 101, 1_001, 10_001, 100_001]),
+            8 => self.rng.between(1, 20),
+            9 | 10 => self.rng.between(1, 1_000),
+            _ => self.rng.pick(&[999_999, 1_000_000]),
         }
     }
 
@@ -1357,7 +1668,7 @@ impl<'a> Writer<'a> {
 
     /// Random letters of those that commands are made of.
     fn alphabet_line(&mut self) {
-        const WORDS: [&str; 34] = [
+        const WORDS: [&str; 38] = [
             "start",
             "cycle",
             "begin",
@@ -1368,7 +1679,9 @@ impl<'a> Writer<'a> {
             "open",
             "shut",
             "clear",
+            "tick",
             "report",
+            "outputs",
             "archive",
             "log",
             "audit",
@@ -1383,6 +1696,8 @@ impl<'a> Writer<'a> {
             "3",
             "21",
             "22",
+            "29",
+            "30",
             "600",
             "601",
             "65535",
@@ -1444,7 +1759,7 @@ impl<'a> Writer<'a> {
     /// A good command's line, to be spoiled.
     fn well_formed(&mut self) -> Vec<u8> {
         let time = self.model.time;
-        let command = match self.rng.below(14) {
+        let command = match self.rng.below(16) {
             0 => Command::Start { time, code2: self.code(), code3: self.code() },
             1..=3 => Command::Cycle(self.edge_cycle()),
             4 => Command::Begin { door: self.door() },
@@ -1459,6 +1774,8 @@ impl<'a> Writer<'a> {
             10 => Command::Shut { lock: self.lock() },
             11 => self.rng.pick(&[Command::Clear, Command::Report, Command::Abandon { door: 1 }]),
             12 => Command::Archive { index: self.rng.below(16) },
+            13 => Command::Tick { named: self.rng.below(TICK_LIMIT + 2) },
+            14 => Command::Outputs,
             _ => self.rng.pick(&[Command::Log { index: 0 }, Command::Audit { index: 3 }]),
         };
         let mut line = Vec::new();
@@ -1521,7 +1838,9 @@ impl<'a> Writer<'a> {
             11 => {
                 words[0] = self
                     .rng
-                    .pick(&["Start", "cycles", "cycl", "beginn", "comit", "?", "help", "0", "logs"])
+                    .pick(&[
+                        "Start", "cycles", "cycl", "beginn", "?", "help", "0", "ticks", "output",
+                    ])
                     .into();
                 words.join(&b' ')
             }

@@ -76,7 +76,9 @@ fn read_command(line: &[u8]) -> Option<Command> {
         [b"open", lock, word] => Some(Command::Open { lock: unsigned(lock)?, code: code(word)? }),
         [b"shut", lock] => Some(Command::Shut { lock: unsigned(lock)? }),
         [b"clear"] => Some(Command::Clear),
+        [b"tick", named] => Some(Command::Tick { named: unsigned(named)? }),
         [b"report"] => Some(Command::Report),
+        [b"outputs"] => Some(Command::Outputs),
         [b"archive", index] => Some(Command::Archive { index: unsigned(index)? }),
         [b"log", index] => Some(Command::Log { index: unsigned(index)? }),
         [b"audit", index] => Some(Command::Audit { index: unsigned(index)? }),
@@ -171,8 +173,14 @@ pub fn write_command(command: &Command, out: &mut Vec<u8>) {
         Command::Clear => {
             words.text("clear");
         }
+        Command::Tick { named } => {
+            words.text("tick").number(named);
+        }
         Command::Report => {
             words.text("report");
+        }
+        Command::Outputs => {
+            words.text("outputs");
         }
         Command::Archive { index } => {
             words.text("archive").number(index);
@@ -202,10 +210,20 @@ pub fn write_answer(answer: &Answer, out: &mut Vec<u8>) {
         Done::Value(value) => {
             words.value(value);
         }
+        Done::Emitted(emitted) => {
+            for pulses in emitted {
+                words.number(pulses);
+            }
+        }
         Done::Report(report) => {
             words.number(report.time).counters(report.counters);
             words.number(report.totals.vm).number(report.totals.vb);
             words.flags(report.alarms).flags(report.latches).flags(report.locks);
+        }
+        Done::Outputs(outputs) => {
+            for output in outputs {
+                words.number(output.account).number(output.waiting).number(output.lost);
+            }
         }
         Done::Archive(line) => {
             words.number(line.month.into()).counters(line.counters);

@@ -39,7 +39,10 @@ fn every_command_is_read() {
         ("open 2 4294967295", Command::Open { lock: 2, code: u32::MAX }),
         ("shut 2", Command::Shut { lock: 2 }),
         ("clear", Command::Clear),
+        ("tick 5", Command::Tick { named: 5 }),
+        ("tick 18446744073709551615", Command::Tick { named: u64::MAX }),
         ("report", Command::Report),
+        ("outputs", Command::Outputs),
         ("archive 4", Command::Archive { index: 4 }),
         ("log 18446744073709551615", Command::Log { index: u64::MAX }),
         ("audit 0", Command::Audit { index: 0 }),
@@ -99,6 +102,20 @@ fn nothing_and_malformed() {
         b"open 1",
         b"open 1 4294967296",
         b"open 1 -",
+        b"tick",
+        b"tick ",
+        b"tick -",
+        b"tick -1",
+        b"tick +1",
+        b"tick 1 2",
+        b"tick 1.5",
+        b"tick 18446744073709551616",
+        b"Tick 1",
+        b"ticks 1",
+        b"outputs 1",
+        b"outputs ",
+        b"output",
+        b"Outputs",
         b"write 1 2 3",
         b"write 1 2 w",
         b"write 1 2 w ",
@@ -124,6 +141,7 @@ fn nothing_and_malformed() {
 fn open_points() {
     // Leading zeros change nothing, and minus nought is nought.
     assert_eq!(read_line(b"log 007"), read_line(b"log 7"));
+    assert_eq!(read_line(b"tick 0600"), read_line(b"tick 600"));
     assert_eq!(read_line(b"cycle 0 0 00065535 - -"), read_line(b"cycle 0 0 65535 - -"));
     assert_eq!(read_line(b"write 1 2 w -0"), read_line(b"write 1 2 w 0"));
     assert_eq!(read_line(b"write 1 2 w -003"), read_line(b"write 1 2 w -3"));
@@ -207,5 +225,14 @@ fn answers_have_the_form_of_the_table() {
         ("audit 0", "0 1 5 2 13 c 0000000000000000 c 8000000000000000"),
         ("audit 1", "0 0 5 2 9 w -2000 w -2001"),
         ("audit 2", "13"),
+        ("begin 1", "0"),
+        ("write 1 24 w 6", "0"),
+        ("write 1 28 w 3", "0"),
+        ("commit 1", "0"),
+        ("cycle 2700000 1 5120 101325 -", "0"),
+        // 100 litres at a factor of 1: 33 times 3, and one litre.
+        ("outputs", "0 0 0 0 0 0 0 100000 33 0 0 0 0"),
+        ("tick 4", "0 0 0 4 0"),
+        ("tick 601", "15"),
     ]);
 }

@@ -134,6 +134,25 @@ fn speed_prints_its_table() {
     assert!(text.contains("\nbench "), "{text}");
 }
 
+/// The workloads are the same lines since before request Three, so that figures
+/// can be compared from one request to the next. The sums are FNV-1a of 64 bits.
+#[test]
+fn the_workloads_of_speed_stay_as_they_are() {
+    let folder = PathBuf::from(env!("CARGO_TARGET_TMPDIR")).join("workloads");
+    let output = Command::new(env!("CARGO_BIN_EXE_speed"))
+        .args(["--save", folder.to_str().unwrap()])
+        .output()
+        .expect("speed runs");
+    assert!(output.status.success());
+    for (name, sum) in [("cycles", 0x080b_0119_c4f9_1c4b), ("mixed", 0x3273_e7c7_cd74_a499)] {
+        let lines = fs::read(folder.join(name).with_extension("txt")).unwrap();
+        let found = lines.iter().fold(0xcbf2_9ce4_8422_2325_u64, |sum, byte| {
+            (sum ^ u64::from(*byte)).wrapping_mul(0x100_0000_01b3)
+        });
+        assert_eq!(found, sum, "{name}");
+    }
+}
+
 /// Runs `speed` with a program that takes a while over any passes and says
 /// that it accepted so many commands.
 fn speed_with_a_device(name: &str, accepted: usize) -> Output {

@@ -74,11 +74,13 @@ fn read() {
         ("read 0 1", "3"),
         ("read 3 1", "3"),
         ("read 1 0", "3"),
-        ("read 1 22", "3"),
+        ("read 1 30", "3"),
+        ("read 1 29", "4"),
         ("read 1 1", "4"),
         ("begin 2", "0"),
         ("read 1 1", "4"),
-        ("read 2 22", "3"),
+        ("read 2 30", "3"),
+        ("read 2 29", "0 w 100"),
         ("read 2 1", "0 w 1"),
         ("read 2 12", "0 c 3f80000000000000"),
     ]);
@@ -91,12 +93,16 @@ fn write() {
         ("write 0 1 w 9", "3"),
         ("write 3 1 w 1", "3"),
         ("write 1 0 w 9", "3"),
-        ("write 1 22 w 9", "3"),
+        ("write 1 30 w 9", "3"),
         // 4 before 9.
         ("write 1 1 w 9", "4"),
         ("write 1 1 w 1", "4"),
+        ("write 1 22 w 9", "4"),
+        ("write 1 29 w 0", "4"),
         ("begin 1", "0"),
-        ("write 1 22 w 9", "3"),
+        ("write 1 30 w 9", "3"),
+        ("write 1 22 w 9", "9"),
+        ("write 1 29 c 4059000000000000", "9"),
         ("write 1 1 w 5", "9"),
         ("write 1 1 c 0000000000000000", "9"),
         ("write 1 12 w 0", "9"),
@@ -113,7 +119,7 @@ fn write() {
 /// The ends of every range, and the numbers beside them.
 #[test]
 fn ranges() {
-    let ranges: [(u32, i64, i64); 18] = [
+    let ranges: [(u32, i64, i64); 26] = [
         (1, 0, 4),
         (2, 90_000, 110_000),
         (3, 27_315, 29_815),
@@ -132,6 +138,14 @@ fn ranges() {
         (19, 0, 1_000),
         (20, 6_000, 12_000),
         (21, 0, 999_999_999),
+        (22, 0, 6),
+        (23, 0, 6),
+        (24, 0, 6),
+        (25, 0, 6),
+        (26, 1, 1_000_000),
+        (27, 1, 1_000_000),
+        (28, 1, 1_000_000),
+        (29, 1, 1_000_000),
     ];
     let mut teller = Teller::new();
     teller.done(&["begin 2"]);
@@ -177,6 +191,14 @@ fn factory_settings() {
         "w 0",
         "w 8000",
         "w 0",
+        "w 0",
+        "w 0",
+        "w 0",
+        "w 0",
+        "w 100",
+        "w 100",
+        "w 100",
+        "w 100",
     ];
     for (setting, value) in (1..).zip(factory) {
         assert_eq!(teller.say(&format!("read 1 {setting}")), format!("0 {value}"));
@@ -304,6 +326,24 @@ fn clear() {
 }
 
 #[test]
+fn tick() {
+    tell(&[
+        ("tick 0", "0 0 0 0 0"),
+        ("tick 599", "0 0 0 0 0"),
+        ("tick 600", "0 0 0 0 0"),
+        ("tick 601", "15"),
+        ("tick 65536", "15"),
+        ("tick 4294967296", "15"),
+        ("tick 18446744073709551615", "15"),
+        // No session, door, lock or setting has a say in it.
+        ("begin 1", "0"),
+        ("begin 2", "0"),
+        ("tick 601", "15"),
+        ("tick 600", "0 0 0 0 0"),
+    ]);
+}
+
+#[test]
 fn books() {
     for book in ["archive", "log", "audit"] {
         for index in ["0", "1", "14", "15", "199", "200", "249", "250", "18446744073709551615"] {
@@ -317,8 +357,11 @@ fn books() {
 fn a_refusal_changes_nothing() {
     let mut teller = Teller::new();
     teller.done(&["start 100 11 12", "open 1 0", "open 2 11", "begin 1", "write 1 16 w 9000"]);
-    teller.done(&["commit 1", "cycle 9999999 7 - - -", "begin 1", "write 1 21 w 5"]);
+    teller.done(&["write 1 22 w 2", "write 1 26 w 30", "commit 1"]);
+    teller.done(&["cycle 9999999 7 - - -", "begin 1", "write 1 21 w 5"]);
     let before = teller.everything();
+    // 700 litres: 23 times 30, and ten.
+    assert_eq!(teller.say("outputs"), "0 1000000 23 0 0 0 0 0 0 0 0 0 0");
     for (line, answer) in [
         ("cycle 9999998 1 5120 101325 -", "5"),
         ("cycle 3155760000 1 5120 101325 -", "6"),
@@ -326,10 +369,12 @@ fn a_refusal_changes_nothing() {
         ("begin 1", "2"),
         ("begin 3", "3"),
         ("read 2 1", "4"),
-        ("read 1 22", "3"),
+        ("read 1 30", "3"),
         ("write 2 1 w 0", "4"),
         ("write 1 1 w 9", "9"),
         ("write 1 99 w 9", "3"),
+        ("write 1 25 w 7", "9"),
+        ("write 1 26 w 0", "9"),
         ("commit 2", "4"),
         ("commit 9", "3"),
         ("abandon 2", "4"),
@@ -337,6 +382,7 @@ fn a_refusal_changes_nothing() {
         ("open 3 11", "8"),
         ("open 7 0", "3"),
         ("shut 7", "3"),
+        ("tick 601", "15"),
         ("archive 99", "13"),
         ("log 999", "13"),
         ("audit 999", "13"),

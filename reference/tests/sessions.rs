@@ -38,7 +38,7 @@ fn what_is_stale() {
     // Another setting was read.
     assert_eq!(race(&["read 1 15", "read 1 17", "other"]), "0");
     // A read that was refused is no read, and a refused write no harm.
-    assert_eq!(race(&["read 1 22", "other"]), "0");
+    assert_eq!(race(&["read 1 30", "other"]), "0");
     assert_eq!(race(&["read 1 16", "write 1 16 w 1", "other"]), "11");
     // Something else staged or nothing: stale all the same.
     assert_eq!(race(&["read 1 16", "write 1 21 w 3", "other"]), "11");
@@ -48,6 +48,48 @@ fn what_is_stale() {
     assert_eq!(race(&["read 1 16", "commit 1", "begin 1", "other"]), "0");
     // A refused begin does not forget what was read.
     assert_eq!(race(&["read 1 16", "begin 1", "other"]), "11");
+}
+
+/// The settings of the outputs go through sessions like any other.
+#[test]
+fn stale_by_an_output() {
+    for setting in 22..=29 {
+        // 1 is in both ranges.
+        let (read, write) = (format!("read 1 {setting}"), format!("write 2 {setting} w 1"));
+        let factory = if setting <= 25 { 0 } else { 100 };
+        let mut teller = Teller::new();
+        teller.done(&["open 2 0", "begin 1", "begin 2", &write]);
+        teller.tell(&[(&read, &format!("0 w {factory}"))]);
+        // A tick and a cycle in between change nothing of it.
+        teller.tell(&[("tick 600", "0 0 0 0 0"), ("cycle 0 1 5120 101325 -", "0")]);
+        teller.done(&["commit 2"]);
+        teller.tell(&[(&read, "0 w 1"), ("commit 1", "11")]);
+        let line = format!("0 0 0 2 {setting} w {factory} w 1");
+        teller.tell(&[("audit 0", &line), ("audit 1", "13")]);
+        // Read anew it is not stale.
+        teller.done(&["begin 1"]);
+        teller.tell(&[(&read, "0 w 1"), ("commit 1", "0")]);
+    }
+}
+
+/// Choices and weights are put in force together, and in order of number.
+#[test]
+fn audit_lines_of_the_outputs() {
+    tell(&[
+        ("start 42 7 0", "0"),
+        ("open 2 7", "0"),
+        ("begin 2", "0"),
+        ("write 2 29 w 1000000", "0"),
+        ("write 2 25 w 6", "0"),
+        ("write 2 26 w 100", "0"),
+        ("write 2 22 w 1", "0"),
+        ("read 2 25", "0 w 6"),
+        ("commit 2", "0"),
+        ("audit 3", "0 0 42 2 22 w 0 w 1"),
+        ("audit 2", "0 1 42 2 25 w 0 w 6"),
+        ("audit 1", "0 2 42 2 26 w 100 w 100"),
+        ("audit 0", "0 3 42 2 29 w 100 w 1000000"),
+    ]);
 }
 
 #[test]
@@ -182,9 +224,10 @@ fn rights() {
         17 => "w 11000",
         18 | 19 => "w 0",
         20 => "w 8000",
+        26..=29 => "w 100",
         _ => "w 0",
     };
-    for setting in 1..=21 {
+    for setting in 1..=29 {
         for locks in 0..8 {
             let mut teller = Teller::new();
             for lock in 1..=3 {
@@ -196,8 +239,8 @@ fn rights() {
             let (one, two, three) = (locks & 1 != 0, locks & 2 != 0, locks & 4 != 0);
             let allowed = match setting {
                 1..=13 => one,
-                14..=20 => one || two,
-                _ => one || two || three,
+                21 => one || two || three,
+                _ => one || two,
             };
             let answer = if allowed { "0" } else { "10" };
             assert_eq!(teller.say("commit 1"), answer, "setting {setting}, locks {locks}");

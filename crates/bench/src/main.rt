@@ -1,8 +1,10 @@
 // The bench: reads commands from standard input, one a line, and writes one line for each, in order. Answers are written before more is read. Of an unfinished line
 // only so much is kept as decides its answer, so memory does not grow. A read or a write that fails is reported on standard error, and ends the bench.
+ghost use mathlib.Core.Path.{_≡_};
 ghost use Prim.Native.Nat.{_≤_, _<_};
 ghost use lib.ListN.{length};
 ghost use Rattle.text.specs.Words.{deciding};
+ghost use Rattle.lines.specs.Lines.{room};
 ghost use Rattle.bench.specs.Bench.{ReadBehind, Refilled, Within, Stepped};
 use desk::Desk;
 use libc::STDERR_FILENO;
@@ -128,9 +130,16 @@ fn step(d: Desk, input: &mut [u8], out: &mut [u8], from: usize, have: usize, mor
     }
 }
 
+// Room for the answers to a block of lines.
+fn answer_buffer() -> [u8; lines::ROOM]
+    ensures { λ r. ⌜ room ≡ length r ⌝ }
+{
+    [0; lines::ROOM]
+}
+
 fn main() {
     let mut input = io::large_buffer();
-    let mut out = io::large_buffer();
+    let mut out = answer_buffer();
     // The device that start time 0 and codes 0 give.
     let begun = desk::fresh(0, 0, 0);
     let mut desk = begun.desk;

@@ -7,6 +7,7 @@ use print::text;
 use state::faults::BAD_VALUE;
 use state::faults::DONE;
 use state::faults::LOCK_MISSING;
+use state::faults::LONG_TICK;
 use state::faults::MANY_PULSES;
 use state::faults::NO_SESSION;
 use state::faults::NO_SUCH;
@@ -143,8 +144,8 @@ fn of_the_settings() {
     );
 }
 
-// A line asked for; and the last row, which is on the card though no whole state can come to it.
-fn the_last_two() {
+// A line asked for; a row that is on the card though no whole state can come to it; a tick.
+fn the_last_three() {
     sized(
         NOT_HELD,
         b"The line asked for is not held (at most ",
@@ -158,15 +159,24 @@ fn the_last_two() {
         b" or more hundred-thousandths of a litre",
         b"No sound box can come to this: do as for 1",
     );
+    limit(
+        LONG_TICK,
+        b"A tick that names more than ",
+        outputs::MOST_TICK,
+        b" pulses",
+        b"Nothing was taken. The boiler house's reader asks for too much: let it ask for no more than that at a time, and more often",
+    );
 }
 
 pub fn run() {
-    text(b"## Numbers 0 to 14\n\n");
+    text(b"## Numbers 0 to ");
+    number(LONG_TICK);
+    text(b"\n\n");
     text(b"| No. | Given when | What to do |\n|--:|---|---|\n");
     of_the_call();
     of_the_cycle();
     of_the_settings();
-    the_last_two();
+    the_last_three();
     text(
         b"\nWhere several apply, 1 comes first, then 3, then 2 or 4, then the rest in rising number. A refusal gives no value and changes\n",
     );

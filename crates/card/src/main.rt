@@ -1,8 +1,9 @@
-// Prints docs/FAULT-CARD.md: the numbers that the device answers, its archive and its settings. Limits, sizes, ranges, factory values and locks are the device's own. So a change
+// Prints docs/FAULT-CARD.md: the numbers that the device answers, its archive, its pulse outputs and its settings. Limits, sizes, ranges, factory values and locks are the device's own. So a change
 // of the device changes what is printed, and the gate refuses the committed page.
 mod archive;
 mod faults;
 mod page;
+mod pulses;
 mod table;
 
 use print::text;
@@ -15,6 +16,8 @@ fn main() {
     faults::run();
     text(b"\n");
     archive::run();
+    text(b"\n");
+    pulses::run();
     text(b"\n");
     table::run();
 }

@@ -70,6 +70,34 @@ fn gas_and_customer(k: usize) {
     }
 }
 
+fn choice(name: &[u8]) {
+    called(name, b"0 off, 1 Vm, 2 VmD, 3 VmT, 4 Vb, 5 VbD, 6 VbT");
+}
+
+fn choices(k: usize) {
+    match k {
+        21 => choice(b"choice of output 1"),
+        22 => choice(b"choice of output 2"),
+        23 => choice(b"choice of output 3"),
+        24 => choice(b"choice of output 4"),
+        _ => unknown(),
+    }
+}
+
+fn weight(name: &[u8]) {
+    called(name, b"litres a pulse");
+}
+
+fn weights(k: usize) {
+    match k {
+        25 => weight(b"weight of output 1"),
+        26 => weight(b"weight of output 2"),
+        27 => weight(b"weight of output 3"),
+        28 => weight(b"weight of output 4"),
+        _ => unknown(),
+    }
+}
+
 // By the place in the table. In groups, because the proof of one long match takes many times as long. A row that this page does not know is printed without a name.
 fn name_and_unit(k: usize) {
     match k {
@@ -77,7 +105,9 @@ fn name_and_unit(k: usize) {
         6..=9 => alarm_limits(k),
         10..=12 => temperature_equation(k),
         13..=15 => fixed_values(k),
-        _ => gas_and_customer(k),
+        16..=20 => gas_and_customer(k),
+        21..=24 => choices(k),
+        _ => weights(k),
     }
 }
 

@@ -2,16 +2,21 @@
 -- asks one question, with the answer that was worked out by hand. A new kind of row is a constructor of `Case` and a clause of `holds`.
 -- Assumes nothing.
 use mathlib.Core.Bool.{Bool, true, false, not, _&&_}
-use mathlib.Core.List.{List, [], _∷_, map}
-use Prim.Native.Nat.{ℕ}
+use mathlib.Core.List.{List, [], _∷_, _++_, map}
+use Prim.Native.Nat.{ℕ, _+_}
 use lib.Dec.{eqb}
 use lib.IntN.{ℤ, pos, negsuc, negℤ}
 use lib.Ieee.{Float, fin, binary64, ofBits}
-use lib.ListN.{replicate}
+use lib.ListN.{replicate, set}
 use Rattle.order.specs.Order.{run}
 use Rattle.units.specs.Units.{litresOf, baseOf}
-use Rattle.settings.specs.Settings.{factorySettings}
+use Rattle.settings.specs.declared.Setting.{Setting}
+use Rattle.settings.specs.Settings.{factorySettings, cp, pMax, firstChoice, firstWeight}
 use Rattle.settings.specs.declared.Value.the-variants.{Whole}
+use Rattle.outputs.specs.declared.Output.{Output}
+use Rattle.outputs.specs.declared.Shown.{Shown}
+use Rattle.outputs.specs.Outputs.{accountOf, freshOutput}
+use Rattle.outputs.specs.Four.{ruleAt, allShown}
 use Rattle.factor.specs.Factor.{factorOf}
 use Rattle.readings.specs.Kelvin.{kelvinOf}
 use Rattle.temperature.specs.declared.Measured.{Measured}
@@ -25,6 +30,7 @@ use Rattle.readings.specs.declared.Compressibility.the-variants.{NotComputed}
 use Rattle.ring.specs.Ring.{archiveLines, logLines, auditLines}
 use Rattle.ring.specs.Store.{heldLines}
 use Rattle.books.specs.declared.ArchiveLine.{ArchiveLine}
+use Rattle.books.specs.declared.LogLine.{LogLine}
 use Rattle.books.specs.Books.{noArchive, noLog, noAudit}
 use Rattle.state.specs.declared.Counters.{Counters}
 use Rattle.state.specs.declared.Alarms.{Alarms}
@@ -34,7 +40,9 @@ use Rattle.state.specs.State.{nothingCounted, fresh, withCore}
 use Rattle.cycle.specs.Cycle.{coefficientsIn}
 use Rattle.panel.specs.Panel.{reported}
 use Rattle.commands.specs.declared.Question.the-variants as question
-use Rattle.runs.specs.Run.{Step, Cycle, Turn, Open, Shut, Clear, Ask, Call, Commit, Begin, Read, Write, Abandon, World, Reply, numberOf, corrector}
+use Rattle.runs.specs.Run.{Step, Cycle, Turn, Open, Shut, Clear, Tick, Ask, Call, Commit, Begin, Read, Write, Abandon, World, Reply, numberOf, corrector}
+use Rattle.runs.specs.InForce.{settingOf}
+use Rattle.runs.specs.Outputs.{emittedBy}
 
 -- ---- what a row can ask
 
@@ -55,6 +63,12 @@ pub data Case : Type 0 where
   monthsCase : State → List Step → List ℕ → List ℕ → Case
   -- or these lines in full: of each the month, Vm, VmD, Vb, VbD
   archiveCase : State → List Step → List ℕ → List ℕ → Case
+  -- or the codes of the logbook lines held, newest first
+  codesCase : State → List Step → List ℕ → List ℕ → Case
+  -- or the outputs as they are shown: of each the account in hundred-thousandths of a litre, what waits, what was lost
+  outputsCase : State → List Step → List ℕ → List ℕ → Case
+  -- or all that the ticks of the run emitted, four numbers a tick
+  emittedCase : State → List Step → List ℕ → List ℕ → Case
 
 -- H2 is `H 2` (H8 has the times that document 02, Two, gave it); a case of document 02's One is `Request 1`
 pub data Source : Type 0 where
@@ -118,6 +132,21 @@ unfoldable pub fiveOfEach : List ArchiveLine → List ℕ
 fiveOfEach [] = []
 fiveOfEach (l ∷ ls) = l .month ∷ l .vm .0 ∷ l .vmd .0 ∷ l .vb .0 ∷ l .vbd .0 ∷ fiveOfEach ls
 
+unfoldable pub codesHeld : World → List ℕ
+codesHeld w = map (λ (l : LogLine). l .code) (heldLines logLines noLog (w .state .core .stores .log .ring) (w .log))
+
+-- account, waiting and lost of each output
+unfoldable pub threeOfEach : List Shown → List ℕ
+threeOfEach [] = []
+threeOfEach (x ∷ xs) = x .account ∷ x .waiting ∷ x .lost ∷ threeOfEach xs
+
+unfoldable pub outputsShown : World → List ℕ
+outputsShown w = threeOfEach (allShown (ruleAt (w .state .core .settings)) (w .state .core .outputs))
+
+unfoldable pub allEmitted : List Reply → List ℕ
+allEmitted [] = []
+allEmitted (a ∷ rest) = emittedBy (a .given) ++ allEmitted rest
+
 -- a run: the numbers of its answers, and the test of what is seen at the end
 unfoldable pub ranTo : State → List Step → List ℕ → (World → Bool) → Bool
 ranTo s steps numbers seen =
@@ -132,6 +161,9 @@ holds (runCase s steps numbers) = ranTo s steps numbers (λ w. true)
 holds (countersCase s steps numbers answer) = ranTo s steps numbers (λ w. sameCounters (reported (w .state .core) .counters) answer)
 holds (alarmsCase s steps numbers p t k) = ranTo s steps numbers (λ w. sameAlarms (w .state .core .measured .alarms) p t k)
 holds (monthsCase s steps numbers months) = ranTo s steps numbers (λ w. sameNumbers (monthsHeld w) months)
+holds (codesCase s steps numbers codes) = ranTo s steps numbers (λ w. sameNumbers (codesHeld w) codes)
+holds (outputsCase s steps numbers shown) = ranTo s steps numbers (λ w. sameNumbers (outputsShown w) shown)
+holds (emittedCase s steps numbers emitted) = ranTo s steps numbers (λ w. sameNumbers (allEmitted ((run corrector steps (blank s)) .0)) emitted)
 holds (archiveCase s steps numbers lines) = ranTo s steps numbers (λ w. sameNumbers (fiveOfEach (archiveHeld w)) lines)
 
 unfoldable pub allHold : List Row → Bool
@@ -158,6 +190,7 @@ withMeasured c time month counters = record {
   latches = c .latches;
   locks = c .locks;
   settings = c .settings;
+  outputs = c .outputs;
   stores = c .stores;
 }
 
@@ -169,6 +202,37 @@ deviceAt counters = withCore factoryDevice (withMeasured (factoryDevice .core) 0
 unfoldable pub deviceIn : ℕ → ℕ → State
 deviceIn time month = withCore factoryDevice (withMeasured (factoryDevice .core) time month nothingCounted)
 
+-- settings with this choice and weight for output k
+unfoldable pub ruled : ℕ → ℕ → ℕ → List Setting → List Setting
+ruled k choice weight a = set (set a (firstChoice + k) (settingOf (Whole (pos choice)))) (firstWeight + k) (settingOf (Whole (pos weight)))
+
+-- the same choice and weight for all four
+unfoldable pub allRuled : ℕ → ℕ → List Setting
+allRuled choice weight = ruled 0 choice weight (ruled 1 choice weight (ruled 2 choice weight (ruled 3 choice weight factorySettings)))
+
+-- an output: account, waiting, lost
+abbrev pub anOutput : ℕ → ℕ → ℕ → Output
+anOutput account waiting lost = record { account = accountOf account; waiting = waiting; lost = lost }
+
+-- the factory device with these settings and these outputs
+unfoldable pub deviceWith : List Setting → List Output → State
+deviceWith a o =
+    let c = factoryDevice .core in
+    withCore factoryDevice (record { measured = c .measured; latches = c .latches; locks = c .locks; settings = a; outputs = o; stores = c .stores })
+
+-- output 1 has this choice and weight, and is as given; the others are off
+unfoldable pub deviceOf : ℕ → ℕ → Output → State
+deviceOf choice weight o = deviceWith (ruled 0 choice weight factorySettings) (o ∷ freshOutput ∷ freshOutput ∷ freshOutput ∷ [])
+
+-- output 1, and then nothing of the other three
+abbrev pub firstAlone : ℕ → ℕ → ℕ → List ℕ
+firstAlone account waiting lost = account ∷ waiting ∷ lost ∷ replicate 9 0
+
+-- the supplier's lock is opened, and a session at door 1 puts two settings in force
+abbrev pub putBoth : ℕ → ℕ → ℕ → ℕ → List Step
+putBoth first v second u =
+    Turn (Open 2 1111) ∷ Call 1 Begin ∷ Call 1 (Write first (Whole (pos v))) ∷ Call 1 (Write second (Whole (pos u))) ∷ Commit 1 ∷ []
+
 -- a cycle at a time, of n pulses, raw 7,680 and a pressure in pascals; K is not computed
 abbrev pub aCycle : ℕ → ℕ → ℕ → Step
 aCycle time n p = Cycle (record { time = time; n = n; raw = Raw 7680; pressure = Pascals p; k = NotComputed })
@@ -177,15 +241,15 @@ aCycle time n p = Cycle (record { time = time; n = n; raw = Raw 7680; pressure =
 abbrev pub oneOfEach : List Step
 oneOfEach =
     aCycle 60 1 202650
-    ∷ Turn (Open 1 0) ∷ Turn (Shut 1) ∷ Clear
-    ∷ Ask question.Report ∷ Ask (question.Archive 0) ∷ Ask (question.Log 0) ∷ Ask (question.Audit 0)
+    ∷ Turn (Open 1 0) ∷ Turn (Shut 1) ∷ Clear ∷ Tick 601
+    ∷ Ask question.Report ∷ Ask question.Outputs ∷ Ask (question.Archive 0) ∷ Ask (question.Log 0) ∷ Ask (question.Audit 0)
     ∷ Call 1 Begin ∷ Call 1 (Read 1) ∷ Call 1 (Write 1 (Whole (pos 1))) ∷ Call 1 Abandon
     ∷ Commit 1
     ∷ []
 
 -- each of them is refused with 1
 abbrev pub oneEach : List ℕ
-oneEach = replicate 13 1
+oneEach = replicate 15 1
 
 -- ---- the table
 
@@ -259,4 +323,58 @@ table =
     ∷ row (Request 2) (runCase (deviceIn 2699999 0) (Ask question.Report ∷ []) (0 ∷ []))
     ∷ row (Request 2) (runCase (deviceIn 2700000 0) oneOfEach oneEach)
     ∷ row (Request 2) (runCase (deviceIn 2700000 1) (Ask question.Report ∷ []) (0 ∷ []))
+    -- Document 02, Three. Ten pulses are 1,000 litres, and 186,355,000 hundred-thousandths at base conditions. Output 1 on VbT at 100 litres, which is
+    -- 10,000,000 hundred-thousandths: 18 pulses, and 6,355,000 stay. Ticks of 5 and of 30 take 5 and the 13 that are left.
+    ∷ row (Request 3) (outputsCase factoryDevice (putBoth 22 6 26 100 ++ (aCycle 60 10 202650 ∷ [])) (replicate 6 0) (firstAlone 6355000 18 0))
+    ∷ row (Request 3) (emittedCase factoryDevice (putBoth 22 6 26 100 ++ (aCycle 60 10 202650 ∷ Tick 5 ∷ Tick 30 ∷ Tick 30 ∷ [])) (replicate 9 0)
+    (5 ∷ 0 ∷ 0 ∷ 0 ∷ 13 ∷ 0 ∷ 0 ∷ 0 ∷ 0 ∷ 0 ∷ 0 ∷ 0 ∷ []))
+    -- VmT at 1,000 litres: exactly one weight. At 1,001: one litre short, so all 1,000 stay. At 999: one pulse, and one litre stays. At 1: a thousand pulses
+    ∷ row (Request 3) (outputsCase (deviceOf 3 1000 (anOutput 0 0 0)) (aCycle 60 10 202650 ∷ []) (0 ∷ []) (firstAlone 0 1 0))
+    ∷ row (Request 3) (outputsCase (deviceOf 3 1001 (anOutput 0 0 0)) (aCycle 60 10 202650 ∷ []) (0 ∷ []) (firstAlone 100000000 0 0))
+    ∷ row (Request 3) (outputsCase (deviceOf 3 999 (anOutput 0 0 0)) (aCycle 60 10 202650 ∷ []) (0 ∷ []) (firstAlone 100000 1 0))
+    ∷ row (Request 3) (outputsCase (deviceOf 3 1 (anOutput 0 0 0)) (aCycle 60 10 202650 ∷ []) (0 ∷ []) (firstAlone 0 1000 0))
+    -- what is in the account counts: one litre there and 1,000 litres are one weight of 1,001
+    ∷ row (Request 3) (outputsCase (deviceOf 3 1001 (anOutput 1 0 0)) (aCycle 60 10 202650 ∷ []) (0 ∷ []) (firstAlone 0 1 0))
+    -- a disturbed cycle: Vm gains nothing, VmD and VmT 1,000 litres, VbD 93,178,000 hundred-thousandths; all at 100 litres a pulse
+    ∷ row (Request 3) (outputsCase (deviceWith (ruled 0 1 100 (ruled 1 2 100 (ruled 2 3 100 (ruled 3 5 100 factorySettings)))) (replicate 4 freshOutput)) (aCycle 60 10 89999 ∷ []) (0 ∷ [])
+    (0 ∷ 0 ∷ 0 ∷ 0 ∷ 10 ∷ 0 ∷ 0 ∷ 10 ∷ 0 ∷ 3178000 ∷ 9 ∷ 0 ∷ []))
+    -- exactly 65,535 wait: no loss, no line. One more is lost and has its line
+    ∷ row (Request 3) (outputsCase (deviceOf 3 1000 (anOutput 0 65534 7)) (aCycle 60 10 202650 ∷ []) (0 ∷ []) (firstAlone 0 65535 7))
+    ∷ row (Request 3) (codesCase (deviceOf 3 1000 (anOutput 0 65534 7)) (aCycle 60 10 202650 ∷ []) (0 ∷ []) [])
+    ∷ row (Request 3) (outputsCase (deviceOf 3 1000 (anOutput 0 65535 7)) (aCycle 60 10 202650 ∷ []) (0 ∷ []) (firstAlone 0 65535 8))
+    ∷ row (Request 3) (codesCase (deviceOf 3 1000 (anOutput 0 65535 7)) (aCycle 60 10 202650 ∷ []) (0 ∷ []) (51 ∷ []))
+    -- the room is used again after a tick
+    ∷ row (Request 3) (outputsCase (deviceOf 3 1000 (anOutput 0 65535 7)) (Tick 600 ∷ aCycle 60 10 202650 ∷ []) (0 ∷ 0 ∷ []) (firstAlone 0 64936 7))
+    -- a thousand lost pulses have one line; it comes after the alarm's, and those of four outputs come in their order. Line 0 is the newest
+    ∷ row (Request 3) (codesCase (deviceOf 3 1 (anOutput 0 65535 0)) (aCycle 60 10 89999 ∷ []) (0 ∷ []) (51 ∷ 11 ∷ []))
+    ∷ row (Request 3) (codesCase (deviceWith (allRuled 3 1000) (replicate 4 (anOutput 0 65535 0))) (aCycle 60 10 89999 ∷ []) (0 ∷ []) (54 ∷ 53 ∷ 52 ∷ 51 ∷ 11 ∷ []))
+    -- the lost counter counts modulo 2^32
+    ∷ row (Request 3) (outputsCase (deviceOf 3 1000 (anOutput 0 65535 4294967295)) (aCycle 60 10 202650 ∷ []) (0 ∷ []) (firstAlone 0 65535 0))
+    -- 600 pulses of 100,000 litres at 10,000,000 Pa: the factor is 9,195,910, so 5,517,546,000 litres at base conditions and as many pulses at weight 1.
+    -- 5,517,546,000 - 65,535 = 5,517,480,465 are lost, which is 1,222,513,169 modulo 2^32
+    ∷ row (Request 3) (outputsCase (deviceWith (set (set (ruled 0 6 1 factorySettings) cp (settingOf (Whole (pos 4)))) pMax (settingOf (Whole (pos 10000000)))) (replicate 4 freshOutput)) (aCycle 60 600 10000000 ∷ []) (0 ∷ [])
+    (firstAlone 0 65535 1222513169))
+    -- the gain is taken before the rollover: VmT goes from 999,999,999,900 to 0 and output 1 gets its pulse
+    ∷ row (Request 3) (outputsCase (withCore (deviceOf 3 100 (anOutput 0 0 0)) (withMeasured (deviceOf 3 100 (anOutput 0 0 0) .core) 0 0 (counts 999999999900 0 999999999900 0 0 0))) (aCycle 60 1 202650 ∷ []) (0 ∷ [])
+    (firstAlone 0 1 0))
+    -- another weight drops the account, and so does another choice; the same weight and choice once more keep it; what waits and what was lost stay
+    ∷ row (Request 3) (outputsCase (deviceOf 3 1000 (anOutput 500 3 2)) (putBoth 22 3 26 999) (replicate 5 0) (firstAlone 0 3 2))
+    ∷ row (Request 3) (outputsCase (deviceOf 3 1000 (anOutput 500 3 2)) (putBoth 22 1 26 1000) (replicate 5 0) (firstAlone 0 3 2))
+    ∷ row (Request 3) (outputsCase (deviceOf 3 1000 (anOutput 500 3 2)) (putBoth 22 3 26 1000) (replicate 5 0) (firstAlone 50000000 3 2))
+    ∷ row (Request 3) (outputsCase (deviceOf 3 1000 (anOutput 500 3 2)) (putBoth 23 6 27 1) (replicate 5 0) (firstAlone 50000000 3 2))
+    ∷ row (Request 3) (outputsCase (deviceOf 3 1000 (anOutput 500 3 2)) (putBoth 22 0 26 1000 ++ (aCycle 60 10 202650 ∷ Tick 2 ∷ [])) (replicate 7 0) (firstAlone 0 1 2))
+    -- a tick names at most 600
+    ∷ row (Request 3) (emittedCase (deviceOf 3 1000 (anOutput 0 601 0)) (Tick 600 ∷ Tick 601 ∷ []) (0 ∷ 15 ∷ []) (600 ∷ 0 ∷ 0 ∷ 0 ∷ []))
+    -- the ends of the ranges; there is no setting 30
+    ∷ row (Request 3) (runCase factoryDevice (Call 1 Begin ∷ Call 1 (Write 22 (Whole (pos 6))) ∷ Call 1 (Write 25 (Whole (pos 7))) ∷ Call 1 (Write 26 (Whole (pos 0))) ∷ Call 1 (Write 29 (Whole (pos 1000000))) ∷ Call 1 (Write 29 (Whole (pos 1000001))) ∷ Call 1 (Read 29) ∷ Call 1 (Read 30) ∷ [])
+    (0 ∷ 0 ∷ 9 ∷ 9 ∷ 0 ∷ 9 ∷ 0 ∷ 3 ∷ []))
+    -- the supplier's lock
+    ∷ row (Request 3) (runCase factoryDevice (Turn (Open 3 2222) ∷ Call 1 Begin ∷ Call 1 (Write 26 (Whole (pos 5))) ∷ Commit 1 ∷ []) (0 ∷ 0 ∷ 0 ∷ 10 ∷ []))
+    -- an account of a whole weight, in litres and in hundred-thousandths, and something in the account of an output that is off: every command is refused with 1
+    ∷ row (Request 3) (runCase (deviceOf 3 1000 (anOutput 1000 0 0)) oneOfEach oneEach)
+    ∷ row (Request 3) (runCase (deviceOf 3 1000 (anOutput 999 0 0)) (Ask question.Outputs ∷ []) (0 ∷ []))
+    ∷ row (Request 3) (runCase (deviceOf 4 1 (anOutput 100000 0 0)) oneOfEach oneEach)
+    ∷ row (Request 3) (runCase (deviceOf 4 1 (anOutput 99999 0 0)) (Ask question.Outputs ∷ []) (0 ∷ []))
+    ∷ row (Request 3) (runCase (deviceOf 0 100 (anOutput 1 0 0)) oneOfEach oneEach)
+    ∷ row (Request 3) (runCase (deviceOf 0 100 (anOutput 0 1 1)) (Ask question.Outputs ∷ []) (0 ∷ []))
     ∷ []

@@ -21,6 +21,7 @@ pub enum LockTurn {
 // A question changes nothing, whatever it answers.
 pub enum Question {
     Report,
+    Outputs,
     Archive(u64),
     Log(u64),
     Audit(u64),
@@ -38,6 +39,7 @@ pub enum Command {
     Cycle(Brought),
     Turn(LockTurn),
     Clear,
+    Tick(u64),
     Ask(Question),
     Call(u64, Act),
     Commit(u64),
@@ -48,6 +50,8 @@ pub enum Given {
     Nothing,
     Value(settings::Value),
     Report(state::Moment),
+    Emitted(outputs::Emitted),
+    Outputs(outputs::AllShown),
     Archive(books::ArchiveLine),
     Log(books::LogLine),
     Audit(books::AuditLine),

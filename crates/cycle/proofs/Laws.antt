@@ -20,6 +20,9 @@ use Rattle.settings.specs.declared.Setting.{Setting}
 use Rattle.settings.specs.Settings.{cp}
 use Rattle.settings.proofs.Laws.{cp-in}
 use Rattle.factor.proofs.Laws.{mostFactor, factor-most}
+use Rattle.outputs.specs.declared.Output.{Output}
+use Rattle.outputs.specs.Four.{ruleAt, outputsB, noneGained}
+use Rattle.outputs.proofs.All.{gains-keep}
 use Rattle.calendar.specs.Calendar.{endOfTime, monthOf}
 use Rattle.ring.specs.Ring.{archiveLines, logLines, ringAfter, FromFresh, advancedRing, advancedBook}
 use Rattle.ring.specs.Store.{written, heldLines}
@@ -39,7 +42,7 @@ use Rattle.state.specs.State.{countersB, totalsB, latchedB, wholeB}
 use Rattle.state.proofs.Card.{not-false}
 use Rattle.state.proofs.Sound.{totals-sound, whole-sound}
 use Rattle.commands.specs.declared.Brought.{Brought}
-use Rattle.cycle.specs.Cycle.{naturalAt, alarmsFor, factorFor, amountsFor, isTooLarge, anyAlarm, counted, latchesAfter, changes, monthLines, cycleRefusal, cycledCore, cycled}
+use Rattle.cycle.specs.Cycle.{naturalAt, alarmsFor, factorFor, amountsFor, isTooLarge, anyAlarm, counted, outputsGained, gainedFor, latchesAfter, changes, monthLines, cycleRefusal, cycledCore, cycled}
 use Rattle.cycle.proofs.Exact.{asked-in-ranges}
 
 -- ---- alarms and latches
@@ -126,6 +129,12 @@ totals-stay c true (Counted v b) e =
     (eq-eqb _ _ (total-disturbed litresRollover (c .vm .0) (c .vmd .0) (c .vmt .0) (v .0) (h .litres)))
     (eq-eqb _ _ (total-disturbed baseRollover (c .vb .0) (c .vbd .0) (c .vbt .0) (b .0) (h .base)))
 
+-- outputs that are whole stay whole
+pub gained-whole : (a : List Setting) (disturbed : Bool) (amounts : Amounts) (o : List Output) → outputsB (ruleAt a) o ≡ true → outputsB (ruleAt a) (outputsGained (ruleAt a) disturbed amounts o .outputs) ≡ true
+unfolding outputsGained noneGained
+gained-whole a disturbed TooLarge o e = e
+gained-whole a disturbed (Counted v b) o e = gains-keep (ruleAt a) (record { disturbed = disturbed; litres = v; base = b }) o e
+
 -- ---- the amounts of a whole device
 
 pub factor-at-most : (s : State) (r : Brought) → wholeB s ≡ true → factorFor (s .core .settings) r ≤ mostFactor
@@ -204,13 +213,13 @@ archive-after s r archive log w e =
     whole-written archiveLines noArchive (s .core .stores .archive) archive (monthLines (s .core .measured .counters) (s .core .measured .month) (monthOf (r .time))) (omega arith) e
     (ring-from archiveLines (s .core .stores .archive) (whole-sound s w .core .archive-held))
 
--- and of the logbook: the alarms that came or went, at the cycle's own time
+-- and of the logbook: the alarms that came or went and the outputs that lost pulses, at the cycle's own time
 pub log-after : (s : State) (r : Brought) (archive : List ArchiveLine) (log : List LogLine) → wholeB s ≡ true → length log ≡ logLines →
     heldLines logLines noLog (cycledCore (s .core) r .stores .log .ring) (cycled s r archive log .log)
-    ≡ take logLines (reverse (logged (s .core .stores .log) (r .time) (changes (s .core .measured .alarms) (alarmsFor (s .core .settings) r))) ++ heldLines logLines noLog (s .core .stores .log .ring) log)
+    ≡ take logLines (reverse (logged (s .core .stores .log) (r .time) (changes (s .core .measured .alarms) (alarmsFor (s .core .settings) r) (gainedFor (s .core .settings) r (s .core .outputs) .over))) ++ heldLines logLines noLog (s .core .stores .log .ring) log)
 unfolding cycled cycledCore advancedBook logged
 log-after s r archive log w e =
-    let codes : List ℕ = changes (s .core .measured .alarms) (alarmsFor (s .core .settings) r) in
+    let codes : List ℕ = changes (s .core .measured .alarms) (alarmsFor (s .core .settings) r) (gainedFor (s .core .settings) r (s .core .outputs) .over) in
     let lines : List LogLine = numbered (logLine (r .time)) (s .core .stores .log .number) codes in
     let held : FromFresh (ringAfter logLines) (s .core .stores .log .ring) = book-ring logLines (s .core .stores .log) (book-from log-common (s .core .stores .log) (whole-sound s w .core .log-held)) in
     ap (λ (n : ℕ). heldLines logLines noLog (advancedRing logLines n (s .core .stores .log .ring)) (written logLines (s .core .stores .log .ring) log lines))

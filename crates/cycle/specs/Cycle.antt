@@ -19,7 +19,7 @@ use Rattle.ring.specs.Store.{written}
 use Rattle.notes.specs.Notes.{logged}
 use Rattle.commands.specs.declared.Brought.{Brought}
 use Rattle.commands.specs.Answers.{plain, Outcome, withBoth}
-unfoldable pub use Rattle.measuring.specs.Measuring.{monthsFrom, monthsCrossed, archiveLine, monthLines, coefficientsIn, temperatureFor, pressureFor, kFor, alarmsFor, factorFor, amountsFor, isTooLarge, anyAlarm, counted, latchesAfter, changeNotes, changes}
+unfoldable pub use Rattle.measuring.specs.Measuring.{monthsFrom, monthsCrossed, archiveLine, monthLines, coefficientsIn, temperatureFor, pressureFor, kFor, alarmsFor, factorFor, amountsFor, isTooLarge, anyAlarm, counted, outputsGained, gainedFor, latchesAfter, changeNotes, lossNotes, changes}
 pub use Rattle.measuring.specs.Measuring.{naturalAt, wholeAt, coefficientAt, kelvinFor, measuredBy}
 
 -- `sound` says whether the state is whole
@@ -38,21 +38,22 @@ cycledCore c r = record {
   latches = latchesAfter (c .latches) (alarmsFor (c .settings) r);
   locks = c .locks;
   settings = c .settings;
+  outputs = gainedFor (c .settings) r (c .outputs) .outputs;
   stores = record {
     archive = advancedRing archiveLines (length (monthLines (c .measured .counters) (c .measured .month) (monthOf (r .time)))) (c .stores .archive);
-    log = advancedBook logLines (length (changes (c .measured .alarms) (alarmsFor (c .settings) r))) (c .stores .log);
+    log = advancedBook logLines (length (changes (c .measured .alarms) (alarmsFor (c .settings) r) (gainedFor (c .settings) r (c .outputs) .over))) (c .stores .log);
     audit = c .stores .audit;
   };
 }
 
 -- What an accepted cycle gives: the state after it, the archive with a line for every month crossed, and the logbook with a line for each alarm
--- that came or went, at the cycle's own time.
+-- that came or went and for each output that lost pulses, at the cycle's own time.
 unfoldable pub cycled : State → Brought → List ArchiveLine → List LogLine → Outcome
 cycled s r archive log =
     withBoth
     (record { reply = plain 0; state = record { core = cycledCore (s .core) r; keypad = s .keypad; port = s .port } })
     (written archiveLines (s .core .stores .archive) archive (monthLines (s .core .measured .counters) (s .core .measured .month) (monthOf (r .time))))
-    (written logLines (s .core .stores .log .ring) log (logged (s .core .stores .log) (r .time) (changes (s .core .measured .alarms) (alarmsFor (s .core .settings) r))))
+    (written logLines (s .core .stores .log .ring) log (logged (s .core .stores .log) (r .time) (changes (s .core .measured .alarms) (alarmsFor (s .core .settings) r) (gainedFor (s .core .settings) r (s .core .outputs) .over))))
 
 -- the cycle: accepted where no refusal applies; a refused one returns its number and leaves everything as it was
 unfoldable pub cycleOf : State → Brought → List ArchiveLine → List LogLine → Outcome

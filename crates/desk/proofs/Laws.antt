@@ -16,9 +16,9 @@ use Rattle.device.specs.Plan.{seenOf, turnBy, turnOf, answerIn}
 use Rattle.device.proofs.Ways.{turn-is-step}
 use Rattle.desk.specs.declared.Desk.{Desk}
 use Rattle.desk.specs.declared.Input.{Input}
-use Rattle.desk.specs.declared.Output.{Output}
+use Rattle.desk.specs.declared.Response.{Response}
 use Rattle.desk.specs.Desk.{block, worldIn, deskOf, entered, entryAt, worldAfter, echoes, served}
-use Rattle.desk.specs.Plan.{commandIn, answeredIn, echoBy, outputBy, soundBy, seenOn, turnOn, outputOn, deskAfter, soundAfter, after, outputsUpTo, puttingTogether}
+use Rattle.desk.specs.Plan.{commandIn, answeredIn, echoBy, responseBy, soundBy, seenOn, turnOn, responseOn, deskAfter, soundAfter, after, responsesUpTo, puttingTogether}
 
 -- a list that has no such place stays as it is
 pub set-past : {A : Type 0} (l : List A) (i : ℕ) (x : A) → length l ≤ i → set l i x ≡ l
@@ -34,12 +34,12 @@ desk-is d entry.Unknown = refl
 desk-is d (entry.Start time supcode custcode) = refl
 desk-is d (entry.Put c) = rw (turn-is-step c (worldIn d))
 
-output-is : (d : Desk) (e : Entry) → _≡_ {A = Output} (outputOn (wholeB (d .state)) d e) (record { echo = (entered e (worldIn d)) .1 })
-unfolding entered outputOn outputBy echoBy commandIn answeredIn turnOn seenOn seenOf turnOf turnBy answerIn
-output-is d entry.Nothing = refl
-output-is d entry.Unknown = refl
-output-is d (entry.Start time supcode custcode) = refl
-output-is d (entry.Put c) = rw (turn-is-step c (worldIn d))
+response-is : (d : Desk) (e : Entry) → _≡_ {A = Response} (responseOn (wholeB (d .state)) d e) (record { echo = (entered e (worldIn d)) .1 })
+unfolding entered responseOn responseBy echoBy commandIn answeredIn turnOn seenOn seenOf turnOf turnBy answerIn
+response-is d entry.Nothing = refl
+response-is d entry.Unknown = refl
+response-is d (entry.Start time supcode custcode) = refl
+response-is d (entry.Put c) = rw (turn-is-step c (worldIn d))
 
 sound-is : (w : World) (e : Entry) → soundBy e (wholeB (w .state)) ≡ wholeB ((entered e w) .0 .state)
 unfolding soundBy entered
@@ -62,14 +62,14 @@ after-is d inputs (suc k) =
     ∙ ap (λ (x : Desk). deskAfter (wholeB (worldAfter (worldIn d) inputs k .state)) x (entryAt inputs k)) (after-is d inputs k)
     ∙ desk-is (deskOf (worldAfter (worldIn d) inputs k)) (entryAt inputs k)
 
-up-to-is : (d : Desk) (inputs : List Input) (k : ℕ) → outputsUpTo d inputs k ≡ echoes (worldIn d) inputs k
-unfolding outputsUpTo echoes
+up-to-is : (d : Desk) (inputs : List Input) (k : ℕ) → responsesUpTo d inputs k ≡ echoes (worldIn d) inputs k
+unfolding responsesUpTo echoes
 up-to-is d inputs zero = refl
 up-to-is d inputs (suc k) =
-    rw (up-to-is d inputs k, sound-after d inputs k, after-is d inputs k, output-is (deskOf (worldAfter (worldIn d) inputs k)) (entryAt inputs k))
+    rw (up-to-is d inputs k, sound-after d inputs k, after-is d inputs k, response-is (deskOf (worldAfter (worldIn d) inputs k)) (entryAt inputs k))
 
--- after all turns of a block, desk and outputs are what `served` asks for
+-- after all turns of a block, desk and responses are what `served` asks for
 pub served-after : (d : Desk) (inputs : List Input) (count k : ℕ) → k ≡ min count block
-    → puttingTogether (after d inputs k .state) (after d inputs k .archive) (after d inputs k .log) (after d inputs k .audit) (outputsUpTo d inputs k) ≡ served d inputs count
+    → puttingTogether (after d inputs k .state) (after d inputs k .archive) (after d inputs k .log) (after d inputs k .audit) (responsesUpTo d inputs k) ≡ served d inputs count
 unfolding puttingTogether served
 served-after d inputs count k last = rw (after-is d inputs k, up-to-is d inputs k, last)

@@ -15,7 +15,7 @@ use Rattle.steps.specs.Step.{withState, step}
 use Rattle.desk.specs.declared.Desk.{Desk}
 use Rattle.desk.specs.declared.Started.{Started}
 use Rattle.desk.specs.declared.Input.{Input}
-use Rattle.desk.specs.declared.Output.{Output}
+use Rattle.desk.specs.declared.Response.{Response}
 use Rattle.desk.specs.declared.Served.{Served}
 
 -- how many lines a block may have
@@ -55,8 +55,8 @@ entered (entry.Put c) w = ((step c w) .0, echo.Said ((step c w) .1))
 abbrev pub noInput : Input
 noInput = record { entry = entry.Nothing }
 
-abbrev pub noOutput : Output
-noOutput = record { echo = echo.Nothing }
+abbrev pub noResponse : Response
+noResponse = record { echo = echo.Nothing }
 
 abbrev pub entryAt : List Input → ℕ → Entry
 entryAt inputs k = getD inputs k noInput .entry
@@ -67,9 +67,9 @@ worldAfter w inputs zero = w
 worldAfter w inputs (suc k) = (entered (entryAt inputs k) (worldAfter w inputs k)) .0
 
 -- what is said to the first k lines, each at its place
-unfoldable pub echoes : World → List Input → ℕ → List Output
-echoes w inputs zero = replicate block noOutput
+unfoldable pub echoes : World → List Input → ℕ → List Response
+echoes w inputs zero = replicate block noResponse
 echoes w inputs (suc k) = set (echoes w inputs k) k (record { echo = (entered (entryAt inputs k) (worldAfter w inputs k)) .1 })
 
 unfoldable pub served : Desk → List Input → ℕ → Served
-served d inputs count = record { desk = deskOf (worldAfter (worldIn d) inputs (min count block)); outputs = echoes (worldIn d) inputs (min count block) }
+served d inputs count = record { desk = deskOf (worldAfter (worldIn d) inputs (min count block)); responses = echoes (worldIn d) inputs (min count block) }

@@ -23,9 +23,9 @@ use Rattle.commands.specs.Answers.{World}
 use Rattle.device.specs.Plan.{seenOf, turnOf, answerIn}
 use Rattle.desk.specs.declared.Desk.{Desk}
 use Rattle.desk.specs.declared.Input.{Input}
-use Rattle.desk.specs.declared.Output.{Output}
+use Rattle.desk.specs.declared.Response.{Response}
 use Rattle.desk.specs.declared.Served.{Served}
-use Rattle.desk.specs.Desk.{block, noOutput, entryAt}
+use Rattle.desk.specs.Desk.{block, noResponse, entryAt}
 
 -- for an entry that is no command, a question: it changes nothing
 unfoldable pub commandIn : Entry → Command
@@ -47,8 +47,8 @@ echoBy entry.Unknown r = echo.Unknown
 echoBy (entry.Start time supcode custcode) r = echo.Said r
 echoBy (entry.Put c) r = echo.Said r
 
-unfoldable pub outputBy : Entry → Answer → Output
-outputBy e a = record { echo = echoBy e (a .reply) }
+unfoldable pub responseBy : Entry → Answer → Response
+responseBy e a = record { echo = echoBy e (a .reply) }
 
 -- whether the state is whole afterwards, given whether it was before
 unfoldable pub soundBy : Entry → Bool → Bool
@@ -65,8 +65,8 @@ seenOn sound d e = seenOf sound (d .state) (commandIn e) (d .archive) (d .log) (
 unfoldable pub turnOn : Bool → Desk → Entry → World × Reply
 turnOn sound d e = turnOf sound (d .state) (commandIn e) (seenOn sound d e) (d .archive) (d .log) (d .audit)
 
-unfoldable pub outputOn : Bool → Desk → Entry → Output
-outputOn sound d e = outputBy e (answeredIn e (answerIn (turnOn sound d e)))
+unfoldable pub responseOn : Bool → Desk → Entry → Response
+responseOn sound d e = responseBy e (answeredIn e (answerIn (turnOn sound d e)))
 
 unfoldable pub deskAfter : Bool → Desk → Entry → Desk
 deskAfter sound d e = record {
@@ -86,9 +86,9 @@ unfoldable pub after : Desk → List Input → ℕ → Desk
 after d inputs zero = d
 after d inputs (suc k) = deskAfter (soundAfter d inputs k) (after d inputs k) (entryAt inputs k)
 
-unfoldable pub outputsUpTo : Desk → List Input → ℕ → List Output
-outputsUpTo d inputs zero = replicate block noOutput
-outputsUpTo d inputs (suc k) = set (outputsUpTo d inputs k) k (outputOn (soundAfter d inputs k) (after d inputs k) (entryAt inputs k))
+unfoldable pub responsesUpTo : Desk → List Input → ℕ → List Response
+responsesUpTo d inputs zero = replicate block noResponse
+responsesUpTo d inputs (suc k) = set (responsesUpTo d inputs k) k (responseOn (soundAfter d inputs k) (after d inputs k) (entryAt inputs k))
 
-unfoldable pub puttingTogether : State → List ArchiveLine → List LogLine → List AuditLine → List Output → Served
-puttingTogether s archive log audit outputs = record { desk = record { state = s; archive = archive; log = log; audit = audit }; outputs = outputs }
+unfoldable pub puttingTogether : State → List ArchiveLine → List LogLine → List AuditLine → List Response → Served
+puttingTogether s archive log audit responses = record { desk = record { state = s; archive = archive; log = log; audit = audit }; responses = responses }

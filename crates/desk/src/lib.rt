@@ -13,8 +13,8 @@ use state::State;
 ghost use mathlib.Core.Path.{_≡_};
 ghost use lib.ListN.{getD, set, replicate};
 ghost use Prim.Native.Nat.{min};
-ghost use Rattle.desk.specs.Desk.{block, started, noInput, noOutput, served};
-ghost use Rattle.desk.specs.Plan.{commandIn, answeredIn, echoBy, outputBy, soundBy, puttingTogether};
+ghost use Rattle.desk.specs.Desk.{block, started, noInput, noResponse, served};
+ghost use Rattle.desk.specs.Plan.{commandIn, answeredIn, echoBy, responseBy, soundBy, puttingTogether};
 
 // The sizes of the stores, as lengths of arrays.
 
@@ -46,14 +46,14 @@ pub struct Input {
     pub entry: Entry,
 }
 
-pub struct Output {
+pub struct Response {
     pub echo: Echo,
 }
 
 // The desk after a block, and what is said to each of its lines.
 pub struct Served {
     pub desk: Desk,
-    pub outputs: [Output; BLOCK],
+    pub responses: [Response; BLOCK],
 }
 
 // A start writes nothing into the stores: their lines are blank, and none is held.
@@ -109,9 +109,9 @@ fn put_together(
     archive: [ArchiveLine; ARCHIVE],
     log: [LogLine; LOG],
     audit: [AuditLine; AUDIT],
-    outputs: [Output; BLOCK],
+    responses: [Response; BLOCK],
 ) -> Served
-    ensures { λ r. ⌜ r ≡ puttingTogether s archive log audit outputs ⌝ }
+    ensures { λ r. ⌜ r ≡ puttingTogether s archive log audit responses ⌝ }
 {
     let desk = Desk {
         state: s,
@@ -121,7 +121,7 @@ fn put_together(
     };
     Served {
         desk: desk,
-        outputs: outputs,
+        responses: responses,
     }
 }
 
@@ -162,10 +162,10 @@ fn command_in(e: Entry) -> Command
     }
 }
 
-fn no_outputs() -> [Output; BLOCK]
-    ensures { λ r. ⌜ r ≡ replicate block noOutput ⌝ }
+fn no_responses() -> [Response; BLOCK]
+    ensures { λ r. ⌜ r ≡ replicate block noResponse ⌝ }
 {
-    let none = Output {
+    let none = Response {
         echo: Echo::Nothing,
     };
     [none; BLOCK]
@@ -198,12 +198,12 @@ fn echo_by(e: Entry, reply: Reply) -> Echo
     }
 }
 
-fn output_by(e: Entry, a: Answer) -> Output
-    ensures { λ r. ⌜ r ≡ outputBy e a ⌝ }
+fn response_by(e: Entry, a: Answer) -> Response
+    ensures { λ r. ⌜ r ≡ responseBy e a ⌝ }
 {
     let reply = a.reply;
     let echo = echo_by(e, reply);
-    Output { echo: echo }
+    Response { echo: echo }
 }
 
 fn state_in(a: Answer) -> State
@@ -224,11 +224,11 @@ fn sound_by(e: Entry, sound: bool) -> bool
     }
 }
 
-fn put_output(outputs: &mut [Output], i: usize, x: Output)
-    ensures { λ _. ⌜ now (outputs .exit) ≡ set (now (outputs .entry)) i x ⌝ }
+fn put_response(responses: &mut [Response], i: usize, x: Response)
+    ensures { λ _. ⌜ now (responses .exit) ≡ set (now (responses .entry)) i x ⌝ }
 {
-    if i < outputs.len() {
-        outputs[i] = x;
+    if i < responses.len() {
+        responses[i] = x;
         return;
     }
 }
@@ -249,7 +249,7 @@ pub fn serve(d: Desk, inputs: [Input; BLOCK], count: usize) -> Served
     let mut archive = archive_of(d);
     let mut log = log_of(d);
     let mut audit = audit_of(d);
-    let mut outputs = no_outputs();
+    let mut responses = no_responses();
     let mut k: usize = 0;
     while k < n {
         let x = fetch_input(&inputs, k);
@@ -258,11 +258,11 @@ pub fn serve(d: Desk, inputs: [Input; BLOCK], count: usize) -> Served
         let seen = device::seen(s, sound, c, &archive, &log, &audit);
         let a = device::answer(s, sound, c, seen, &mut archive, &mut log, &mut audit);
         let b = answered_in(e, a);
-        let y = output_by(e, b);
-        put_output(&mut outputs, k, y);
+        let y = response_by(e, b);
+        put_response(&mut responses, k, y);
         s = state_in(b);
         sound = sound_by(e, sound);
         k = k + 1;
     }
-    put_together(s, archive, log, audit, outputs)
+    put_together(s, archive, log, audit, responses)
 }

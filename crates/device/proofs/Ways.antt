@@ -13,14 +13,14 @@ use Rattle.state.specs.State.{wholeB}
 use Rattle.cycle.specs.Plan.{cyclePlanned}
 use Rattle.cycle.proofs.Join.{cycle-planned}
 use Rattle.panel.specs.Plan.{turnPlanned, logLineBy, archiveLineBy}
-use Rattle.panel.proofs.Planned.{opened-so, shut-so, log-line-so, archive-line-so}
+use Rattle.panel.proofs.Planned.{opened-so, shut-so, log-line-so, archive-line-so, outputs-so}
 use Rattle.doors.specs.Plan.{commitPlanned, auditLineBy}
 use Rattle.doors.proofs.Kept.{commit-planned, audit-line-so}
 use Rattle.commands.specs.declared.LockTurn.the-variants.{Open, Shut}
 use Rattle.commands.specs.declared.Question.{Question}
 use Rattle.commands.specs.declared.Question.the-variants as question
 use Rattle.commands.specs.declared.Command.{Command}
-use Rattle.commands.specs.declared.Command.the-variants.{Cycle, Turn, Clear, Ask, Call, Commit}
+use Rattle.commands.specs.declared.Command.the-variants.{Cycle, Turn, Clear, Tick, Ask, Call, Commit}
 use Rattle.commands.specs.declared.Reply.{Reply}
 use Rattle.commands.specs.declared.Answer.{Answer}
 use Rattle.commands.specs.Answers.{World}
@@ -55,7 +55,9 @@ unfolding lineOf lineAsked plainLine seenOf seenBy byState stateReply
 seen-by sound s (Cycle r) archive log audit = refl
 seen-by sound s (Turn t) archive log audit = refl
 seen-by sound s Clear archive log audit = refl
+seen-by sound s (Tick n) archive log audit = refl
 seen-by sound s (Ask question.Report) archive log audit = refl
+seen-by sound s (Ask question.Outputs) archive log audit = refl
 seen-by sound s (Ask (question.Archive i)) archive log audit = refl
 seen-by sound s (Ask (question.Log i)) archive log audit = refl
 seen-by sound s (Ask (question.Audit i)) archive log audit = refl
@@ -91,6 +93,7 @@ module _ (sound : Bool) (s : State) (seen : Reply) (archive : List ArchiveLine) 
   cycle-way (Cycle r) yes-1 = (refl, (refl, (refl, refl)))
   cycle-way (Turn t) yes-1 = absurd yes-1
   cycle-way Clear yes-1 = absurd yes-1
+  cycle-way (Tick n) yes-1 = absurd yes-1
   cycle-way (Ask q) yes-1 = absurd yes-1
   cycle-way (Call door act) yes-1 = absurd yes-1
   cycle-way (Commit door) yes-1 = absurd yes-1
@@ -101,6 +104,7 @@ module _ (sound : Bool) (s : State) (seen : Reply) (archive : List ArchiveLine) 
   turn-way (Cycle r) no-1 yes-2 = absurd no-1
   turn-way (Turn t) no-1 yes-2 = (refl, (refl, (refl, refl)))
   turn-way Clear no-1 yes-2 = absurd yes-2
+  turn-way (Tick n) no-1 yes-2 = absurd yes-2
   turn-way (Ask q) no-1 yes-2 = absurd yes-2
   turn-way (Call door act) no-1 yes-2 = absurd yes-2
   turn-way (Commit door) no-1 yes-2 = absurd yes-2
@@ -111,6 +115,7 @@ module _ (sound : Bool) (s : State) (seen : Reply) (archive : List ArchiveLine) 
   commit-way (Cycle r) no-1 no-2 yes-3 = absurd no-1
   commit-way (Turn t) no-1 no-2 yes-3 = absurd no-2
   commit-way Clear no-1 no-2 yes-3 = absurd yes-3
+  commit-way (Tick n) no-1 no-2 yes-3 = absurd yes-3
   commit-way (Ask q) no-1 no-2 yes-3 = absurd yes-3
   commit-way (Call door act) no-1 no-2 yes-3 = absurd yes-3
   commit-way (Commit door) no-1 no-2 yes-3 = (refl, (refl, (refl, refl)))
@@ -121,6 +126,7 @@ module _ (sound : Bool) (s : State) (seen : Reply) (archive : List ArchiveLine) 
   rest-way (Cycle r) no-1 no-2 no-3 = absurd no-1
   rest-way (Turn t) no-1 no-2 no-3 = absurd no-2
   rest-way Clear no-1 no-2 no-3 = (refl, (refl, (refl, refl)))
+  rest-way (Tick n) no-1 no-2 no-3 = (refl, (refl, (refl, refl)))
   rest-way (Ask q) no-1 no-2 no-3 = (refl, (refl, (refl, refl)))
   rest-way (Call door act) no-1 no-2 no-3 = (refl, (refl, (refl, refl)))
   rest-way (Commit door) no-1 no-2 no-3 = absurd no-3
@@ -129,6 +135,7 @@ module _ (sound : Bool) (s : State) (seen : Reply) (archive : List ArchiveLine) 
 
 reply-is : (q : Question) (w : World) → replyBy (wholeB (w .state)) q w ≡ replyTo q w
 reply-is question.Report w = refl
+reply-is question.Outputs w = outputs-so (w .state)
 reply-is (question.Archive i) w = archive-line-so (w .state) i (w .archive)
 reply-is (question.Log i) w = log-line-so (w .state) i (w .log)
 reply-is (question.Audit i) w = audit-line-so (w .state) i (w .audit)
@@ -139,6 +146,7 @@ turn-is-step (Cycle r) w = rw (cycle-planned (w .state) r (w .archive) (w .log))
 turn-is-step (Turn (Open lock code)) w = rw ((opened-so (w .state) lock code (w .log)) .0, (opened-so (w .state) lock code (w .log)) .1)
 turn-is-step (Turn (Shut lock)) w = rw ((shut-so (w .state) lock (w .log)) .0, (shut-so (w .state) lock (w .log)) .1)
 turn-is-step Clear w = refl
+turn-is-step (Tick n) w = refl
 turn-is-step (Ask q) w = ap (λ (r : Reply). (w, r)) (reply-is q w)
 turn-is-step (Call door act) w = refl
 turn-is-step (Commit door) w = rw (commit-planned (w .state) door (w .audit))

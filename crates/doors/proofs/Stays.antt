@@ -13,7 +13,8 @@ use Rattle.ground.specs.Below.{allBelow}
 use Rattle.ground.proofs.Flags.{Either, is-true, is-false, either-of, and-left, and-right, and-both, or-false-left, or-false-right}
 use Rattle.ground.proofs.Every.{all-each, each-all}
 use Rattle.settings.specs.declared.Value.{Value}
-use Rattle.settings.specs.Settings.{settingCount, fitsB, orderedB}
+use Rattle.settings.specs.Settings.{settingCount, fitsB, settingsFitB, orderedB}
+use Rattle.outputs.proofs.All.{commits-keep}
 use Rattle.ring.specs.Ring.{auditLines}
 use Rattle.ring.proofs.Whole.{book-stays, audit-common}
 use Rattle.books.specs.declared.AuditLine.{AuditLine}
@@ -260,11 +261,13 @@ unfolding committedCore
 core-stays s door n lines a =
     let p : SoundCore (s .core) = whole-sound s (a .step .whole) .core in
     let q : sessionB (sessionAt s door) ≡ true = session-sound s door (a .step .whole) in
+    let stood : settingsFitB (asStand (s .core .settings) (sessionAt s door .cells)) ≡ true = stand-fits (s .core .settings) (sessionAt s door .cells) (p .fit) (λ k l t. staged-fit (getD (sessionAt s door .cells) k blankCell .staged) (fitsB k (getD (sessionAt s door .cells) k blankCell .value)) (session-each (sessionAt s door) q k l .fit) t) in
     record {
       measured = p .measured;
-      fit = stand-fits (s .core .settings) (sessionAt s door .cells) (p .fit) (λ k l t. staged-fit (getD (sessionAt s door .cells) k blankCell .staged) (fitsB k (getD (sessionAt s door .cells) k blankCell .value)) (session-each (sessionAt s door) q k l .fit) t);
+      fit = stood;
       ordered = a .ordered;
       latched = p .latched;
+      outputs = commits-keep (s .core .settings) (asStand (s .core .settings) (sessionAt s door .cells)) (s .core .outputs) stood (p .outputs);
       archive-held = p .archive-held;
       log-held = p .log-held;
       audit-held = book-stays audit-common lines (s .core .stores .audit) (p .audit-held);

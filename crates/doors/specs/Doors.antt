@@ -1,4 +1,4 @@
--- Two doors and their sessions. Document 01, "Doors, sessions, locks", and the fault card.
+-- Two doors and their sessions. Document 01, "Doors, sessions, locks", and the fault card; document 02, Three.
 -- Assumes nothing.
 use Prim.Native.Nat.{ℕ, zero, suc, _+_, _-_}
 use mathlib.Core.Bool.{Bool, true, not, cond, _&&_, _||_}
@@ -9,6 +9,7 @@ use Rattle.ground.specs.Below.{anyBelow}
 use Rattle.settings.specs.declared.Value.{Value}
 use Rattle.settings.specs.declared.Setting.{Setting}
 use Rattle.settings.specs.Settings.{settingCount, noSetting, fitsB, orderedB, rightB}
+use Rattle.outputs.specs.Four.{ruleAt, allCommitted}
 use Rattle.ring.specs.declared.Book.{Book}
 use Rattle.ring.specs.Ring.{auditLines, advancedBook}
 use Rattle.books.specs.declared.AuditLine.{AuditLine}
@@ -129,12 +130,14 @@ unfoldable pub commitLines : State → ℕ → List AuditLine
 commitLines s door =
     audited (s .core .stores .audit) (s .core .measured .time) door (changesAmong (s .core .settings) (sessionAt s door .cells) settingCount)
 
+-- an output whose choice or weight is now another drops its account (document 02, Three)
 unfoldable pub committedCore : Core → List Cell → ℕ → Core
 committedCore c cells lines = record {
   measured = c .measured;
   latches = c .latches;
   locks = c .locks;
   settings = asStand (c .settings) cells;
+  outputs = allCommitted (ruleAt (c .settings)) (ruleAt (asStand (c .settings) cells)) (c .outputs);
   stores = record { archive = c .stores .archive; log = c .stores .log; audit = advancedBook auditLines lines (c .stores .audit) };
 }
 

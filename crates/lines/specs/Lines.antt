@@ -11,7 +11,7 @@ use Rattle.text.specs.Entries.{entryOf}
 use Rattle.text.specs.Echoes.{echoText, enough}
 use Rattle.desk.specs.declared.Desk.{Desk}
 use Rattle.desk.specs.declared.Input.{Input}
-use Rattle.desk.specs.declared.Output.{Output}
+use Rattle.desk.specs.declared.Response.{Response}
 use Rattle.desk.specs.declared.Served.{Served}
 use Rattle.desk.specs.Desk.{block, noInput, served}
 use Rattle.lines.specs.declared.Inputs.{Inputs}
@@ -56,9 +56,9 @@ inputsIn input = inputsOf (take block (wholeLines input))
 -- ---- the lines of what is said
 
 -- one after another
-unfoldable pub echoLines : List Output → List ℕ
+unfoldable pub echoLines : List Response → List ℕ
 echoLines [] = []
-echoLines (x ∷ outputs) = echoText (x .echo) ++ echoLines outputs
+echoLines (x ∷ responses) = echoText (x .echo) ++ echoLines responses
 
 -- room for a block of the longest lines
 abbrev pub room : ℕ
@@ -75,7 +75,7 @@ unfoldable pub servedLines : Desk → List ℕ → Served
 servedLines d input = served d (inputsIn input .inputs) (inputsIn input .count)
 
 unfoldable pub saidLines : Desk → List ℕ → List ℕ
-saidLines d input = echoLines (take (inputsIn input .count) (servedLines d input .outputs))
+saidLines d input = echoLines (take (inputsIn input .count) (servedLines d input .responses))
 
 -- with too little room nothing is written and nothing is put to the desk: no answer is lost
 unfoldable pub answersOf : Desk → List ℕ → List ℕ → Answers

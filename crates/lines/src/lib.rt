@@ -1,7 +1,7 @@
 // Lines by the block: the whole lines of an input are put to a desk, and what is said to them is written as lines.
 use desk::Desk;
 use desk::Input;
-use desk::Output;
+use desk::Response;
 use text::words::LINE_FEED;
 ghost use mathlib.Core.Path.{_≡_};
 ghost use mathlib.Core.List.{_++_};
@@ -59,9 +59,9 @@ pub fn inputs_in(input: &[u8]) -> Inputs
 }
 
 // Writes a line for each of the first `count` answers, and says how many bytes they take together.
-fn put_echoes(out: &mut [u8], outputs: [Output; desk::BLOCK], count: usize) -> usize
+fn put_echoes(out: &mut [u8], responses: [Response; desk::BLOCK], count: usize) -> usize
     requires { ⌜ room ≤ length (now out) ⌝ }
-    ensures { λ r. ⌜ Fronted (now (out .entry)) (now (out .exit)) (echoLines (take (min count block) outputs)) r ⌝ }
+    ensures { λ r. ⌜ Fronted (now (out .entry)) (now (out .exit)) (echoLines (take (min count block) responses)) r ⌝ }
 {
     let mut used: usize = 0;
     let mut k: usize = 0;
@@ -69,7 +69,7 @@ fn put_echoes(out: &mut [u8], outputs: [Output; desk::BLOCK], count: usize) -> u
         if k == desk::BLOCK {
             return used;
         }
-        let x = outputs[k];
+        let x = responses[k];
         let echo = x.echo;
         used = text::echoes::echo_line(out, used, echo);
         k += 1;
@@ -95,8 +95,8 @@ pub fn answer(d: Desk, input: &[u8], out: &mut [u8]) -> Answers
     let inputs = asked.inputs;
     let served = desk::serve(d, inputs, asked.count);
     let after = served.desk;
-    let outputs = served.outputs;
-    let used = put_echoes(out, outputs, asked.count);
+    let responses = served.responses;
+    let used = put_echoes(out, responses, asked.count);
     Answers {
         desk: after,
         at: asked.at,

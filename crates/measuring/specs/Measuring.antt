@@ -1,8 +1,10 @@
--- What one cycle measures, in the paper's order of work. Document 01, "One measuring cycle"; document 02, One.
+-- What one cycle measures, in the paper's order of work. Document 01, "One measuring cycle"; document 02, One and Three.
 -- Assumes nothing.
 use Prim.Native.Nat.{ℕ, zero, suc, _+_, _-_}
 use mathlib.Core.Bool.{Bool, true, false, not, cond, _&&_, _||_}
-use mathlib.Core.List.{List, [], _∷_, map}
+use mathlib.Core.List.{List, [], _∷_, _++_, map}
+use lib.ListN.{getD}
+use Rattle.ground.specs.Below.{listed}
 use lib.IntN.{ℤ}
 use lib.Ieee.{Float}
 use Rattle.units.specs.declared.Litres.{Litres}
@@ -11,7 +13,12 @@ use Rattle.units.specs.declared.Amounts.{Amounts}
 use Rattle.units.specs.declared.Amounts.the-variants.{TooLarge, Counted}
 use Rattle.units.specs.Units.{plusLitres, plusBase, amountsOf}
 use Rattle.settings.specs.declared.Setting.{Setting}
-use Rattle.settings.specs.Settings.{valueAt, wholeOf, naturalOf, coefficientOf, cp, pb, tb, mdP, mdT, mdK, pMin, pMax, tMin, tMax, eq1, eq2, eq3, pF, tF, kF}
+use Rattle.settings.specs.Settings.{valueAt, wholeOf, coefficientOf, cp, pb, tb, mdP, mdT, mdK, pMin, pMax, tMin, tMax, eq1, eq2, eq3, pF, tF, kF}
+pub use Rattle.settings.specs.Settings.{naturalAt}
+use Rattle.outputs.specs.declared.Rule.{Rule}
+use Rattle.outputs.specs.declared.Output.{Output}
+use Rattle.outputs.specs.declared.AllGained.{AllGained}
+use Rattle.outputs.specs.Four.{outputCount, ruleAt, allGained, noneGained}
 use Rattle.calendar.specs.Calendar.{monthOf}
 use Rattle.temperature.specs.declared.Coefficients.{Coefficients}
 use Rattle.readings.specs.declared.RawTemperature.{RawTemperature}
@@ -32,10 +39,7 @@ use Rattle.notes.specs.declared.Note.{Note}
 use Rattle.notes.specs.Notes.{noteOf, noted}
 use Rattle.commands.specs.declared.Brought.{Brought}
 
--- The value in force of a setting, as a plain number. A setting is given by its name, which is its place in the table.
-abbrev pub naturalAt : List Setting → ℕ → ℕ
-naturalAt a setting = naturalOf (valueAt a setting)
-
+-- The value in force of a setting, with its sign or as a float. A setting is given by its name, which is its place in the table.
 abbrev pub wholeAt : List Setting → ℕ → ℤ
 wholeAt a setting = wholeOf (valueAt a setting)
 
@@ -107,6 +111,17 @@ counted c disturbed TooLarge = c
 counted c false (Counted v b) = record { vm = plusLitres (c .vm) v; vmd = c .vmd; vmt = plusLitres (c .vmt) v; vb = plusBase (c .vb) b; vbd = c .vbd; vbt = plusBase (c .vbt) b }
 counted c true (Counted v b) = record { vm = c .vm; vmd = plusLitres (c .vmd) v; vmt = plusLitres (c .vmt) v; vb = c .vb; vbd = plusBase (c .vbd) b; vbt = plusBase (c .vbt) b }
 
+-- ---- the pulse outputs (document 02, Three)
+
+-- what the outputs gain: both amounts, by whether the cycle is disturbed
+unfoldable pub outputsGained : (ℕ → Rule) → Bool → Amounts → List Output → AllGained
+outputsGained rules disturbed TooLarge o = noneGained o
+outputsGained rules disturbed (Counted v b) o = allGained rules (record { disturbed = disturbed; litres = v; base = b }) o
+
+-- the outputs after a cycle, and which of them lost pulses in it
+unfoldable pub gainedFor : List Setting → Brought → List Output → AllGained
+gainedFor a r o = outputsGained (ruleAt a) (anyAlarm (alarmsFor a r)) (amountsFor a r) o
+
 -- ---- 7. Alarms
 
 -- a latch is set when its alarm is present, and stays
@@ -119,9 +134,13 @@ changeNotes before found =
     noteOf (found .p && not (before .p)) 11 ∷ noteOf (found .t && not (before .t)) 12 ∷ noteOf (found .k && not (before .k)) 13
     ∷ noteOf (before .p && not (found .p)) 21 ∷ noteOf (before .t && not (found .t)) 22 ∷ noteOf (before .k && not (found .k)) 23 ∷ []
 
+-- "logged as 51 to 54, one line an output in a cycle, after the alarm lines" (document 02, Three): by which outputs lost pulses
+unfoldable pub lossNotes : List Bool → List Note
+lossNotes over = listed (λ k. noteOf (getD over k false) (51 + k)) outputCount
+
 -- the codes of the lines whose condition holds
-unfoldable pub changes : Alarms → Alarms → List ℕ
-changes before found = noted (changeNotes before found)
+unfoldable pub changes : Alarms → Alarms → List Bool → List ℕ
+changes before found over = noted (changeNotes before found ++ lossNotes over)
 
 -- ---- together
 

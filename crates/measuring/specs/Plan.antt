@@ -15,12 +15,16 @@ use Rattle.settings.specs.declared.Setting.{Setting}
 use Rattle.settings.specs.Settings.{cp, pb, tb}
 use Rattle.readings.specs.Plan.{kelvinGuarded}
 use Rattle.factor.specs.Plan.{factorGuarded}
+use Rattle.outputs.specs.declared.Output.{Output}
+use Rattle.outputs.specs.declared.AllGained.{AllGained}
+use Rattle.outputs.specs.Plan.{ruleGuarded}
 use Rattle.calendar.specs.Calendar.{endOfTime}
 use Rattle.state.specs.declared.Counters.{Counters}
+use Rattle.state.specs.declared.Alarms.{Alarms}
 use Rattle.state.specs.Card.{firstOf}
 use Rattle.commands.specs.declared.Brought.{Brought}
 use Rattle.measuring.specs.declared.Found.{Found}
-use Rattle.measuring.specs.Measuring.{naturalAt, temperatureFor, pressureFor, kFor, alarmsFor, counted}
+use Rattle.measuring.specs.Measuring.{naturalAt, temperatureFor, pressureFor, kFor, alarmsFor, anyAlarm, counted, outputsGained}
 
 -- the factor and the amounts
 unfoldable pub factorPlanned : List Setting → Brought → ℕ
@@ -41,3 +45,7 @@ refusalBy sound last lengths time n large = firstOf (
 -- both amounts go to the main counters, or both to the disturbed ones, and to the totals
 unfoldable pub countedBy : Counters → Bool → Litres → BaseUnits → Counters
 countedBy c disturbed v b = counted c disturbed (Counted v b)
+
+-- what the outputs gain, by the rules as the code takes them
+unfoldable pub gainedPlanned : List Setting → Alarms → Amounts → List Output → AllGained
+gainedPlanned a found amounts o = outputsGained (ruleGuarded a) (anyAlarm found) amounts o

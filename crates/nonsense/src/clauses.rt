@@ -1,4 +1,4 @@
-// Every command on states that break one clause of "whole"; `values` does this for settings and staged values. The states among them that are whole lie at the very
+// Every command on states that break one clause of "whole"; `values` does this for settings and staged values, `accounts` for the outputs. The states among them that are whole lie at the very
 // ends of what is allowed.
 use crate::lists::every;
 use print::end;
@@ -283,15 +283,16 @@ fn left_over(door: u64, setting: u64, place: usize) {
     seen_at(b"read with no session", s, door, setting, place, two);
 }
 
+// The first setting and the last.
 fn sessions() {
     overtaken(1, 1, 0);
-    overtaken(1, 21, 20);
+    overtaken(1, 29, 28);
     overtaken(2, 1, 0);
-    overtaken(2, 21, 20);
+    overtaken(2, 29, 28);
     left_over(1, 1, 0);
-    left_over(1, 21, 20);
+    left_over(1, 29, 28);
     left_over(2, 1, 0);
-    left_over(2, 21, 20);
+    left_over(2, 29, 28);
 }
 
 pub fn run() {

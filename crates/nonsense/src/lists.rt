@@ -7,7 +7,7 @@ use trials::trial::exact;
 // Every command, with arguments that a whole state accepts.
 fn accepted(s: State, x: Lines) {
     each(
-        b"open 2 1234\nshut 1\nclear\nreport\nlog 0\narchive 0\n",
+        b"open 2 1234\nshut 1\nclear\nreport\nlog 0\narchive 0\ntick 5\noutputs\n",
         s,
         x,
     );
@@ -61,6 +61,15 @@ fn cycles(s: State, x: Lines) {
     );
 }
 
+// Nothing, the most that a tick may name, one more, and the largest number.
+fn ticks(s: State, x: Lines) {
+    each(
+        b"tick 0\ntick 600\ntick 601\ntick 18446744073709551615\n",
+        s,
+        x,
+    );
+}
+
 fn sessions(s: State, x: Lines) {
     each(
         b"begin 0\nbegin 1\nbegin 3\nabandon 0\nabandon 2\nabandon 3\ncommit 0\ncommit 2\ncommit 3\n",
@@ -68,26 +77,41 @@ fn sessions(s: State, x: Lines) {
         x,
     );
     each(
-        b"read 0 1\nread 3 1\nread 1 0\nread 1 22\nread 3 22\nread 2 22\nread 2 1\n",
+        b"read 0 1\nread 3 1\nread 1 0\nread 1 30\nread 3 30\nread 2 30\nread 2 1\n",
+        s,
+        x,
+    );
+    each(b"read 1 22\nread 1 29\nread 2 29\n", s, x);
+}
+
+// There is no setting 30. The last four values are infinite and fit no setting.
+fn writes(s: State, x: Lines) {
+    each(
+        b"write 0 1 w 1\nwrite 3 1 w 5\nwrite 1 30 w 1\nwrite 1 0 w 1\nwrite 2 30 w 1\nwrite 2 1 w 1\nwrite 2 1 w 5\nwrite 1 1 w 5\n",
+        s,
+        x,
+    );
+    each(
+        b"write 1 1 c 3ff0000000000000\nwrite 1 11 w 1\nwrite 1 11 c 7ff0000000000000\nwrite 1 30 c 7ff0000000000000\n",
+        s,
+        x,
+    );
+    each(
+        b"write 2 0 c 7ff0000000000000\nwrite 3 30 c 7ff0000000000000\n",
         s,
         x,
     );
 }
 
-// The last four values are infinite and fit no setting.
-fn writes(s: State, x: Lines) {
+// The choice of output 1 and the weight of output 4: at the ends of their ranges, and past them.
+fn writes_of_outputs(s: State, x: Lines) {
     each(
-        b"write 0 1 w 1\nwrite 3 1 w 5\nwrite 1 22 w 1\nwrite 1 0 w 1\nwrite 2 22 w 1\nwrite 2 1 w 1\nwrite 2 1 w 5\nwrite 1 1 w 5\n",
+        b"write 1 22 w 0\nwrite 1 22 w 6\nwrite 1 22 w 7\nwrite 2 22 w 7\nwrite 1 22 c 3ff0000000000000\n",
         s,
         x,
     );
     each(
-        b"write 1 1 c 3ff0000000000000\nwrite 1 11 w 1\nwrite 1 11 c 7ff0000000000000\nwrite 1 22 c 7ff0000000000000\n",
-        s,
-        x,
-    );
-    each(
-        b"write 2 0 c 7ff0000000000000\nwrite 3 22 c 7ff0000000000000\n",
+        b"write 1 29 w 0\nwrite 1 29 w 1\nwrite 1 29 w 1000000\nwrite 1 29 w 1000001\nwrite 2 29 w 0\n",
         s,
         x,
     );
@@ -97,6 +121,8 @@ pub fn all(s: State, x: Lines) {
     accepted(s, x);
     locks_and_lines(s, x);
     cycles(s, x);
+    ticks(s, x);
     sessions(s, x);
     writes(s, x);
+    writes_of_outputs(s, x);
 }

@@ -36,6 +36,10 @@ fn one_reason() {
     put(b"one session", s);
     put(b"two sessions", two_sessions());
     put(b"all locks open", change::locks(s, locks(true, true, true)));
+    put(
+        b"no pulse waits",
+        change::outputs(s, outputs::fresh_outputs()),
+    );
     put(b"month 39", not_whole(s));
     put(b"cp code 16", change::setting(s, 0, Value::Whole(16)));
     put(

@@ -10,6 +10,7 @@ use trials::base::one_session;
 use trials::base::staged;
 use trials::base::two_sessions;
 use trials::change;
+use trials::change::outputs_off;
 
 fn value(v: Value) {
     match v {
@@ -34,10 +35,11 @@ fn at_door(door: u64, setting: u64, place: usize, v: Value) {
     every(change::cell(two_sessions(), door, place, staged(v)));
 }
 
+// In force it breaks no account, because the outputs are off.
 fn broken(setting: u64, place: usize, v: Value) {
     text(b"setting");
     titled(setting, v);
-    every(change::setting(one_session(), place, v));
+    every(change::setting(outputs_off(one_session()), place, v));
     at_door(1, setting, place, v);
     at_door(2, setting, place, v);
 }
@@ -80,6 +82,18 @@ fn settings_broken() {
     whole(21, 20, -1, 1_000_000_000);
 }
 
+// The same of the outputs: four choices, then four weights.
+fn outputs_broken() {
+    whole(22, 21, -1, 7);
+    whole(23, 22, -1, 7);
+    whole(24, 23, -1, 7);
+    whole(25, 24, -1, 7);
+    whole(26, 25, 0, 1_000_001);
+    whole(27, 26, 0, 1_000_001);
+    whole(28, 27, 0, 1_000_001);
+    whole(29, 28, 0, 1_000_001);
+}
+
 fn pair(low: u64, place: usize, m: i64, next: usize, n: i64) {
     text(b"pair");
     number(low);
@@ -92,6 +106,7 @@ fn pair(low: u64, place: usize, m: i64, next: usize, n: i64) {
 
 pub fn run() {
     settings_broken();
+    outputs_broken();
     pair(7, 6, 700_000, 7, 700_000);
     pair(7, 6, 700_001, 7, 700_000);
     pair(9, 8, 6_000, 9, 6_000);

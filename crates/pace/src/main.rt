@@ -5,7 +5,7 @@ use commands::Echo;
 use commands::Reply;
 use desk::Desk;
 use desk::Input;
-use desk::Output;
+use desk::Response;
 use libc::STDIN_FILENO;
 use libc::STDOUT_FILENO;
 use text::numbers::Number;
@@ -15,7 +15,7 @@ fn is_done(reply: Reply) -> bool {
 }
 
 // A command is accepted if its number is 0.
-fn is_accepted(x: Output) -> bool {
+fn is_accepted(x: Response) -> bool {
     let echo = x.echo;
     match echo {
         Echo::Nothing => false,
@@ -24,11 +24,11 @@ fn is_accepted(x: Output) -> bool {
     }
 }
 
-fn accepted_in(outputs: [Output; desk::BLOCK], count: usize) -> u64 {
+fn accepted_in(responses: [Response; desk::BLOCK], count: usize) -> u64 {
     let mut found: u64 = 0;
     for k in 0..desk::BLOCK {
         if k < count {
-            let x = outputs[k];
+            let x = responses[k];
             let good = is_accepted(x);
             if good {
                 found = std::num::wrapping_add_u64(found, 1);
@@ -47,8 +47,8 @@ fn run(d: Desk, inputs: [Input; desk::BLOCK], count: usize, passes: u64) -> u64 
         let served = desk::serve(desk, inputs, count);
         let next = served.desk;
         desk = next;
-        let outputs = served.outputs;
-        found = accepted_in(outputs, count);
+        let responses = served.responses;
+        found = accepted_in(responses, count);
         left -= 1;
     }
     found

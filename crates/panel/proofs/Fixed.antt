@@ -17,6 +17,8 @@ use Rattle.commands.specs.declared.Answer.{Answer}
 use Rattle.panel.proofs.start.Reads as start
 use Rattle.panel.proofs.clear.Reads as clear
 use Rattle.panel.proofs.report.Reads as report
+use Rattle.panel.proofs.tick.Reads as tick
+use Rattle.panel.proofs.outputs.Reads as outputs
 use Rattle.panel.proofs.«open_lock» as opens
 use Rattle.panel.proofs.«shut_lock» as shuts
 use Rattle.panel.proofs.«archive_line» as archives
@@ -32,6 +34,12 @@ clear-fixed a r q e f x y = fixed x y
 
 pub report-fixed : (a : _) (r q : Reply) (e f : _) → report.Post tt a r e → report.Post tt a q f → r ≡ q
 report-fixed a r q e f x y = fixed x y
+
+pub tick-fixed : (a : _) (r q : Answer) (e f : _) → tick.Post tt a r e → tick.Post tt a q f → r ≡ q
+tick-fixed a r q e f x y = fixed x y
+
+pub outputs-fixed : (a : _) (r q : Reply) (e f : _) → outputs.Post tt a r e → outputs.Post tt a q f → r ≡ q
+outputs-fixed a r q e f x y = fixed x y
 
 -- ---- over a store
 

@@ -12,6 +12,8 @@ use lib.ListN.{length, getD}
 use borrow.Author.Tests.{ltb-false, lt-leb, le-leb, leb-false}
 use Rattle.ground.proofs.Flags.{or-false-right, Either, is-true, is-false, either-of}
 use Rattle.units.specs.Units.{plusLitres, plusBase}
+use Rattle.outputs.specs.Four.{ruleAt}
+use Rattle.outputs.proofs.All.{ticks-keep}
 use Rattle.calendar.specs.Calendar.{endOfTime}
 use Rattle.ring.specs.declared.Book.{Book}
 use Rattle.ring.specs.Ring.{archiveLines, logLines, logStep, bookAfter, FromFresh, advancedBook, bookB}
@@ -32,7 +34,7 @@ use Rattle.state.proofs.Sound.{Totalled, totals-sound, measured-sound, Sound, S
 use Rattle.asked.specs.Asked.{lineGiven}
 use Rattle.commands.specs.declared.Given.the-variants as given
 use Rattle.commands.specs.Answers.{plain, Outcome, withLog}
-use Rattle.panel.specs.Panel.{startRefusal, startOf, noLock, lockIn, withLock, turnCodes, turnedCore, turned, refusedTurn, openRefusal, openOf, shutRefusal, shutOf, clearedLatches, cleared, clearRefusal, clearBy, clearOf, reported, logLineOf, archiveLineOf}
+use Rattle.panel.specs.Panel.{startRefusal, startOf, noLock, lockIn, withLock, turnCodes, turnedCore, turned, refusedTurn, openRefusal, openOf, shutRefusal, shutOf, clearedLatches, cleared, clearRefusal, clearBy, clearOf, tickRefusal, ticked, tickBy, tickOf, reported, logLineOf, archiveLineOf}
 
 -- ---- start
 
@@ -65,6 +67,7 @@ turned-whole s lock to log e =
         fit = c .fit;
         ordered = c .ordered;
         latched = c .latched;
+        outputs = c .outputs;
         archive-held = c .archive-held;
         log-held = book-stays log-common (length (turnCodes (lockIn (s .core .locks) lock) lock to)) (s .core .stores .log) (c .log-held);
         audit-held = c .audit-held;
@@ -110,6 +113,7 @@ cleared-whole s e =
         fit = c .fit;
         ordered = c .ordered;
         latched = cleared-latched (s .core .measured .alarms) (s .core .latches) ∙ c .latched;
+        outputs = c .outputs;
         archive-held = c .archive-held;
         log-held = c .log-held;
         audit-held = c .audit-held;
@@ -125,6 +129,38 @@ clear-by number s false e = e
 pub clear-whole : (s : State) → wholeB s ≡ true → wholeB (clearOf s .state) ≡ true
 unfolding clearBy
 clear-whole s = clear-by (clearRefusal (wholeB s) s) s (eqb (clearRefusal (wholeB s) s) 0)
+
+-- ---- tick
+
+pub ticked-whole : (s : State) (n : ℕ) → wholeB s ≡ true → wholeB (ticked s n) ≡ true
+unfolding ticked
+ticked-whole s n e =
+    let p : Sound s = whole-sound s e in
+    let c : SoundCore (s .core) = p .core in
+    sound-whole (ticked s n) (record {
+      core = record {
+        measured = c .measured;
+        fit = c .fit;
+        ordered = c .ordered;
+        latched = c .latched;
+        outputs = ticks-keep (ruleAt (s .core .settings)) n (s .core .outputs) (c .outputs);
+        archive-held = c .archive-held;
+        log-held = c .log-held;
+        audit-held = c .audit-held;
+      };
+      keypad = p .keypad;
+      port = p .port;
+    })
+
+tick-by : (s : State) (n : ℕ) (done : Bool) → wholeB s ≡ true → wholeB (cond {A = State} done (ticked s n) s) ≡ true
+tick-by s n true e = ticked-whole s n e
+tick-by s n false e = e
+
+pub tick-whole : (s : State) (n : ℕ) → wholeB s ≡ true → wholeB (tickOf s n .state) ≡ true
+unfolding tickBy
+tick-whole s n = tick-by s n (eqb (tickRefusal (wholeB s) n) 0)
+
+-- ---- latches
 
 -- of each alarm: a latch drops where the alarm is not present, and stays as it was where it is
 pub record Dropped (present latch after : Bool) : Type 0 where

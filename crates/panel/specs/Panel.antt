@@ -1,11 +1,12 @@
--- The commands that are no cycle and no session step: start, lock turns, clear, report, and the lines of the archive and the logbook.
--- Document 01, "Doors, sessions, locks", "Books" and "Number on the fault card".
+-- The commands that are no cycle and no session step: start, lock turns, clear, tick, the two reports, and the lines of the archive and the logbook.
+-- Document 01, "Doors, sessions, locks", "Books" and "Number on the fault card"; document 02, Three.
 -- Assumes nothing.
 use Prim.Native.Nat.{ℕ, _+_}
 use mathlib.Core.Bool.{Bool, true, false, not, cond, _&&_, _||_}
 use mathlib.Core.List.{List, [], _∷_}
 use lib.ListN.{length}
 use lib.Dec.{ltb, leb, eqb}
+use Rattle.outputs.specs.Four.{ruleAt, allTicked, mostTick, allShown, emittedOf, shownOf}
 use Rattle.calendar.specs.Calendar.{endOfTime}
 use Rattle.ring.specs.Ring.{archiveLines, logLines, advancedBook}
 use Rattle.books.specs.declared.ArchiveLine.{ArchiveLine}
@@ -68,6 +69,7 @@ turnedCore c lock to = record {
   latches = c .latches;
   locks = withLock (c .locks) lock to;
   settings = c .settings;
+  outputs = c .outputs;
   stores = record { archive = c .stores .archive; log = advancedBook logLines (length (turnCodes (lockIn (c .locks) lock) lock to)) (c .stores .log); audit = c .stores .audit };
 }
 
@@ -118,6 +120,7 @@ cleared s = record {
     latches = clearedLatches (s .core .latches) (s .core .measured .alarms);
     locks = s .core .locks;
     settings = s .core .settings;
+    outputs = s .core .outputs;
     stores = s .core .stores;
   };
   keypad = s .keypad;
@@ -129,6 +132,35 @@ clearBy sound s = answered (clearRefusal sound s) s (cleared s)
 
 abbrev pub clearOf : State → Answer
 clearOf s = clearBy (wholeB s) s
+
+-- ---- tick (document 02, Three)
+
+-- "15, a tick naming more than 600, after 1"
+unfoldable pub tickRefusal : Bool → ℕ → ℕ
+tickRefusal sound n = firstOf ((1, not sound) ∷ (15, ltb mostTick n) ∷ [])
+
+unfoldable pub ticked : State → ℕ → State
+ticked s n = record {
+  core = record {
+    measured = s .core .measured;
+    latches = s .core .latches;
+    locks = s .core .locks;
+    settings = s .core .settings;
+    outputs = allTicked n (s .core .outputs) .outputs;
+    stores = s .core .stores;
+  };
+  keypad = s .keypad;
+  port = s .port;
+}
+
+-- it "answers the four numbers emitted"
+unfoldable pub tickBy : Bool → State → ℕ → Answer
+tickBy sound s n =
+    let number = tickRefusal sound n in
+    record { reply = giving number (given.Emitted (emittedOf (allTicked n (s .core .outputs) .emitted))); state = cond (eqb number 0) (ticked s n) s }
+
+abbrev pub tickOf : State → ℕ → Answer
+tickOf s n = tickBy (wholeB s) s n
 
 -- ---- report
 
@@ -152,6 +184,10 @@ reportBy sound s = giving (reportRefusal sound) (given.Report (reported (s .core
 
 abbrev pub reportOf : State → Reply
 reportOf s = reportBy (wholeB s) s
+
+-- account, waiting and lost of each output; refused by 1 alone
+unfoldable pub outputsOf : State → Reply
+outputsOf s = giving (reportRefusal (wholeB s)) (given.Outputs (shownOf (allShown (ruleAt (s .core .settings)) (s .core .outputs))))
 
 -- ---- a line of a store: line i of the lines held, newest first
 

@@ -10,7 +10,7 @@ use borrow.Author.Tests.{ltb-false, le-ltb}
 use lib.Dec.{ltb, eqb}
 use lib.IntN.{ℤ, pos, negsuc, _+ℤ_}
 use lib.Signed.{ltZ}
-use Rattle.ground.proofs.Flags.{or-false-left, or-false-right, choice}
+use Rattle.ground.proofs.Flags.{or-false-left, or-false-right, whichever}
 use Rattle.temperature.specs.declared.Coefficients.{Coefficients}
 use Rattle.temperature.specs.declared.Measured.{Measured}
 use Rattle.temperature.specs.declared.Measured.the-variants as measured
@@ -43,7 +43,7 @@ module _ (low high : ℕ) where
   within-bounds : (lowest highest fixed x : ℕ) → low ≤ lowest → highest ≤ high → Between low high fixed → Between low high (takenWithin lowest highest fixed x .value)
   unfolding takenWithin
   within-bounds lowest highest fixed x h k b =
-      choice (λ (t : Taken). Between low high (t .value)) (ltb x lowest || ltb highest x) (λ e. b) (λ e. record { not-below = le-trans h (ltb-false x lowest (or-false-left (ltb x lowest) (ltb highest x) e)); not-above = le-trans (ltb-false highest x (or-false-right (ltb x lowest) (ltb highest x) e)) k })
+      whichever (λ (t : Taken). Between low high (t .value)) (ltb x lowest || ltb highest x) (λ e. b) (λ e. record { not-below = le-trans h (ltb-false x lowest (or-false-left (ltb x lowest) (ltb highest x) e)); not-above = le-trans (ltb-false highest x (or-false-right (ltb x lowest) (ltb highest x) e)) k })
 
   read-bounds : (lowest highest fixed : ℕ) (reading : Pressure) → low ≤ lowest → highest ≤ high → Between low high fixed → Between low high (pressureRead lowest highest fixed reading .value)
   unfolding pressureRead
@@ -54,7 +54,7 @@ module _ (low high : ℕ) where
   pub pressure-bounds : (mode lowest highest fixed : ℕ) (reading : Pressure) → low ≤ lowest → highest ≤ high → Between low high fixed → Between low high (pressureTaken mode lowest highest fixed reading .value)
   unfolding pressureTaken
   pressure-bounds mode lowest highest fixed reading h k b =
-      choice (λ (t : Taken). Between low high (t .value)) (eqb mode 0) (λ e. b) (λ e. read-bounds lowest highest fixed reading h k b)
+      whichever (λ (t : Taken). Between low high (t .value)) (eqb mode 0) (λ e. b) (λ e. read-bounds lowest highest fixed reading h k b)
 
 k-read-bounds : (fixed : ℕ) (reading : Compressibility) → Between leastK mostK fixed → Between leastK mostK (kRead fixed reading .value)
 unfolding kRead
@@ -64,7 +64,7 @@ k-read-bounds fixed (Computed k) b = within-bounds leastK mostK leastK mostK fix
 -- if K.F lies from the least to the most K, so does K
 pub k-bounds : (mode fixed : ℕ) (reading : Compressibility) → Between leastK mostK fixed → Between leastK mostK (kTaken mode fixed reading .value)
 unfolding kTaken
-k-bounds mode fixed reading b = choice (λ (t : Taken). Between leastK mostK (t .value)) (eqb mode 0) (λ e. b) (λ e. k-read-bounds fixed reading b)
+k-bounds mode fixed reading b = whichever (λ (t : Taken). Between leastK mostK (t .value)) (eqb mode 0) (λ e. b) (λ e. k-read-bounds fixed reading b)
 
 -- ---- T
 
@@ -72,7 +72,7 @@ measured-in-range : (lowest highest fixed : ℤ) (m : Measured) → ((z : ℤ) �
 unfolding measuredTaken
 measured-in-range lowest highest fixed measured.Failed f b = b
 measured-in-range lowest highest fixed (measured.Hundredths t) f b =
-    choice (λ (u : TakenTemperature). InRange (u .value)) (ltZ t lowest || ltZ highest t) (λ e. b) (λ e. f t refl)
+    whichever (λ (u : TakenTemperature). InRange (u .value)) (ltZ t lowest || ltZ highest t) (λ e. b) (λ e. f t refl)
 
 read-in-range : (lowest highest fixed : ℤ) (c : Coefficients) (reading : RawTemperature) → InRange fixed → InRange (temperatureRead lowest highest fixed c reading .value)
 unfolding temperatureRead
@@ -84,7 +84,7 @@ read-in-range lowest highest fixed c (raw-temperature.Raw raw) b =
 pub temperature-in-range : (mode : ℕ) (lowest highest fixed : ℤ) (c : Coefficients) (reading : RawTemperature) → InRange fixed → InRange (temperatureTaken mode lowest highest fixed c reading .value)
 unfolding temperatureTaken
 temperature-in-range mode lowest highest fixed c reading b =
-    choice (λ (u : TakenTemperature). InRange (u .value)) (eqb mode 0) (λ e. b) (λ e. read-in-range lowest highest fixed c reading b)
+    whichever (λ (u : TakenTemperature). InRange (u .value)) (eqb mode 0) (λ e. b) (λ e. read-in-range lowest highest fixed c reading b)
 
 -- ---- T in kelvin
 

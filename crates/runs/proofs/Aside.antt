@@ -15,10 +15,10 @@ use Rattle.state.specs.State.{noSession, sessionB, wholeB}
 use Rattle.state.specs.Card.{firstOf}
 use Rattle.state.proofs.Sound.{SoundCore, sound-whole, whole-sound, no-session}
 use Rattle.cycle.specs.Cycle.{cycledCore, cycled}
-use Rattle.panel.specs.Panel.{turnedCore, turned, cleared}
+use Rattle.panel.specs.Panel.{turnedCore, turned, cleared, ticked}
 use Rattle.doors.specs.Doors.{noDoor, refusedCommit}
 use Rattle.runs.specs.Rows.{rowsOf, refusedBy}
-use Rattle.runs.specs.Run.{Step, Cycle, Turn, Clear, Ask, Call, Commit, Begin, Read, Write, Abandon, Reply, World, step, Body, bodyOf, actOf, roleAt, role}
+use Rattle.runs.specs.Run.{Step, Cycle, Turn, Clear, Tick, Ask, Call, Commit, Begin, Read, Write, Abandon, Reply, World, step, Body, bodyOf, actOf, roleAt, role}
 use Rattle.runs.specs.Run as command
 use Rattle.commands.specs.declared.Given.the-variants as given
 use Rattle.steps.proofs.Keeps.{step-whole}
@@ -125,7 +125,7 @@ abbrev numberAlone : Step → Body → ℕ
 numberAlone x b = firstOf (rowsOf x (alone b))
 
 pub asides : (x : Step) → role x ≡ aside → (b : Body) → SoundCore (b .core) → Aside x b
-unfolding cycled cycledCore turned turnedCore cleared
+unfolding cycled cycledCore turned turnedCore cleared ticked
 asides (Cycle r) o b s =
     aside-of (Cycle r) b (numberAlone (Cycle r) b) s (λ k p w. rw (w, quiet b s))
     (record { moves = λ k p. refl; stays = λ k p. refl; gives = λ k p. refl; settings = refl; audit = refl })
@@ -134,6 +134,9 @@ asides (Turn turn) o b s =
     (record { moves = λ k p. refl; stays = λ k p. refl; gives = λ k p. refl; settings = refl; audit = refl })
 asides Clear o b s =
     aside-of Clear b (numberAlone Clear b) s (λ k p w. rw (w, quiet b s))
+    (record { moves = λ k p. refl; stays = λ k p. refl; gives = λ k p. refl; settings = refl; audit = refl })
+asides (Tick named) o b s =
+    aside-of (Tick named) b (numberAlone (Tick named) b) s (λ k p w. rw (w, quiet b s))
     (record { moves = λ k p. refl; stays = λ k p. refl; gives = λ k p. refl; settings = refl; audit = refl })
 asides (Ask question) o b s =
     aside-of (Ask question) b (numberAlone (Ask question) b) s (λ k p w. rw (w, quiet b s))

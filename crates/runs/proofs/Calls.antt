@@ -6,11 +6,9 @@ use mathlib.Core.List.{List, [], _∷_}
 use Prim.Native.Nat.{ℕ, _-_}
 use native.Mathlib.Omega.{arith}
 use lib.Dec.{eqb}
-use lib.IntN.{pos}
 use lib.ListN.{length, getD}
 use Rattle.order.specs.Order.{Door, keypad, port, Act, Role, aside, at}
 use Rattle.settings.specs.declared.Value.{Value}
-use Rattle.settings.specs.declared.Value.the-variants.{Whole}
 use Rattle.settings.specs.Settings.{settingCount, noSetting, fitsB, orderedB}
 use Rattle.ring.specs.Ring.{auditLines}
 use Rattle.ring.specs.Store.{written}
@@ -20,11 +18,11 @@ use Rattle.state.specs.declared.Session.{Session}
 use Rattle.state.specs.declared.State.{State}
 use Rattle.state.specs.State.{noSession, wholeB}
 use Rattle.state.specs.Card.{firstOf}
-use Rattle.doors.specs.Doors.{noDoor, noSuchSetting, sessionAt, otherAt, placed, withSession, cellAt, withCell, begun, beginRefusal, beginBy, beginOf, abandonRefusal, abandonBy, abandonOf, readRefusal, valueRead, markedRead, readAfter, readBy, readOf, writeRefusal, stagedCell, writeAfter, writeBy, writeOf, lockMissing, staleB, asStand, commitRefusal, changesAmong, audited, commitLines, overtakenSession, committedCore, committed, endsRefused, refusedCommit, commitOf}
+use Rattle.doors.specs.Doors.{noDoor, noSuchSetting, sessionAt, otherAt, placed, withSession, cellAt, withCell, begun, beginRefusal, beginBy, abandonRefusal, abandonBy, readRefusal, valueRead, markedRead, readAfter, readBy, writeRefusal, stagedCell, writeAfter, writeBy, lockMissing, staleB, asStand, commitRefusal, changesAmong, audited, commitLines, overtakenSession, committedCore, committed, endsRefused, refusedCommit, commitOf}
 use Rattle.state.proofs.Sound.{SoundCore}
 use Rattle.doors.proofs.Stays.{commit-accepted, core-stays}
 use Rattle.runs.specs.Exactly.{Rows}
-use Rattle.runs.specs.Run.{Step, Cycle, Turn, Clear, Ask, Call, Commit, Begin, Read, Write, Abandon, World, Reply, plain, giving, step, roleAt, role, Body}
+use Rattle.runs.specs.Run.{Step, Cycle, Turn, Clear, Tick, Ask, Call, Commit, Begin, Read, Write, Abandon, World, Reply, plain, giving, step, roleAt, role, Body}
 use Rattle.commands.specs.declared.Given.the-variants as given
 
 -- ---- doors by their numbers
@@ -104,6 +102,7 @@ pub call-of : (x : Step) (d : Door) (y : Act) → role x ≡ at d y → AtCall x
 call-of (Cycle r) d y o = absurd (not-aside o)
 call-of (Turn turn) d y o = absurd (not-aside o)
 call-of Clear d y o = absurd (not-aside o)
+call-of (Tick named) d y o = absurd (not-aside o)
 call-of (Ask question) d y o = absurd (not-aside o)
 call-of (Call door Begin) d y o = at-door door Act.begin d y o (Call door Begin) begins
 call-of (Call door Abandon) d y o = at-door door Act.abandon d y o (Call door Abandon) abandons
@@ -117,6 +116,7 @@ abbrev pub outsideOf : Step → Body → Reply
 outsideOf (Cycle r) b = plain 0
 outsideOf (Turn turn) b = plain 0
 outsideOf Clear b = plain 0
+outsideOf (Tick named) b = plain 0
 outsideOf (Ask question) b = plain 0
 outsideOf (Call door Begin) b = plain 0
 outsideOf (Call door Abandon) b = plain 4
@@ -185,6 +185,7 @@ abbrev pub insideOf : Step → Body → Session → Session × Reply
 insideOf (Cycle r) b s = (s, plain 0)
 insideOf (Turn turn) b s = (s, plain 0)
 insideOf Clear b s = (s, plain 0)
+insideOf (Tick named) b s = (s, plain 0)
 insideOf (Ask question) b s = (s, plain 0)
 insideOf (Call door Begin) b s = (s, plain 2)
 insideOf (Call door Abandon) b s = (s, plain 0)

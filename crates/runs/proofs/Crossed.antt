@@ -23,10 +23,9 @@ use Rattle.state.specs.declared.Counters.{Counters}
 use Rattle.commands.specs.declared.Brought.{Brought}
 use Rattle.cycle.specs.Cycle.{monthsFrom, monthsCrossed, archiveLine, monthLines, cycleRefusal, cycledCore, cycled}
 use Rattle.cycle.proofs.Join.{accepted}
-use Rattle.panel.specs.Panel.{turnedCore, turned, cleared}
+use Rattle.panel.specs.Panel.{turnedCore, turned, cleared, ticked}
 use Rattle.doors.specs.Doors.{placed, withSession, readAfter, writeAfter, committedCore, committed}
-use Rattle.runs.specs.Run.{Step, Cycle, Turn, Clear, Ask, Call, Commit, World, numberOf, step, corrector, started, Body, bodyOf}
-use Rattle.runs.specs.Run as Run
+use Rattle.runs.specs.Run.{Step, Cycle, Turn, Clear, Tick, Ask, Call, Commit, World, numberOf, step, corrector, started, Body, bodyOf}
 use Rattle.runs.specs.Rows.{rowsOf, refusedBy}
 use Rattle.runs.specs.History.{History, history, lastTime, startTime}
 use Rattle.runs.specs.Locks.{startCode}
@@ -34,7 +33,7 @@ use Rattle.runs.specs.Lines.{archiveShelf, wroteIn}
 use Rattle.runs.proofs.Effects.{after, number-is, world-is, refused-body}
 use Rattle.runs.proofs.Numbers.{map-join}
 use Rattle.runs.proofs.InForce.{Agreed}
-use Rattle.runs.proofs.Told.{Told, told, month-told, counters-told, from-start-told}
+use Rattle.runs.proofs.Told.{Told, told, month-told, from-start-told}
 use Rattle.runs.proofs.Lines.{archiveBy, archive-told}
 use Rattle.runs.proofs.Times.{start-month}
 
@@ -89,10 +88,11 @@ cycle-up w r z =
     rw m (month-mono (w .state .core .measured .time) (r .time) (ltb-false (r .time) (w .state .core .measured .time) (a .not-early)))
 
 accepted-crosses : (x : Step) (w : World) → firstOf (rowsOf x w) ≡ 0 → Crossed (archiveBy x w) (w .state .core .measured .month) ((after x w) .state .core .measured .month)
-unfolding cycled cycledCore turned turnedCore cleared withSession placed readAfter writeAfter committed committedCore
+unfolding cycled cycledCore turned turnedCore cleared ticked withSession placed readAfter writeAfter committed committedCore
 accepted-crosses (Cycle r) w z = record { up = cycle-up w r z; months = line-months (w .state .core .measured .counters) (w .state .core .measured .month) (monthOf (r .time)) }
 accepted-crosses (Turn turn) w z = stays (w .state .core .measured .month)
 accepted-crosses Clear w z = stays (w .state .core .measured .month)
+accepted-crosses (Tick named) w z = stays (w .state .core .measured .month)
 accepted-crosses (Ask question) w z = stays (w .state .core .measured .month)
 accepted-crosses (Call door act) w z = stays (w .state .core .measured .month)
 accepted-crosses (Commit door) w z = stays (w .state .core .measured .month)

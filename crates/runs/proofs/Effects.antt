@@ -10,6 +10,7 @@ use native.Mathlib.Omega.{arith}
 use lib.Dec.{ltb, leb, eqb}
 use borrow.Author.Tests.{eqb-true, ltb-true, lt-ltb, leb-true, ne-eqb}
 use Rattle.ground.proofs.Flags.{and-left, and-right}
+use Rattle.outputs.specs.Four.{allTicked, emittedOf}
 use Rattle.ring.specs.Ring.{auditLines}
 use Rattle.ring.specs.Store.{written}
 use Rattle.state.specs.declared.Measured.{Measured}
@@ -18,13 +19,13 @@ use Rattle.state.specs.State.{noSession}
 use Rattle.state.specs.Card.{firstOf}
 use Rattle.commands.specs.declared.Brought.{Brought}
 use Rattle.cycle.specs.Cycle.{cycleRefusal, cycledCore, cycled, cycleOf}
-use Rattle.panel.specs.Panel.{turnedCore, turned, clearRefusal, cleared, clearBy, clearOf}
+use Rattle.panel.specs.Panel.{turnedCore, turned, clearRefusal, cleared, clearBy, tickRefusal, ticked, tickBy}
 use Rattle.doors.specs.Doors.{sessionAt, placed, withSession, commitRefusal, commitLines, committedCore, committed, endsRefused, refusedCommit, commitOf}
 use Rattle.commands.specs.declared.Given.the-variants as given
 use Rattle.runs.specs.Exactly.{Rows, applies, earlier, listsNumber, orderlyB}
 use Rattle.runs.specs.Exactly as exact
 use Rattle.runs.specs.Rows.{asking, rowsOf, printedAfter, lastNumber, placeInTable, refusedBy}
-use Rattle.runs.specs.Run.{Step, Cycle, Turn, Clear, Ask, Call, Commit, Given, Reply, World, withState, numberOf, plain, giving, cycles, logs, audits, step, onCycle, Body, bodyOf, lockOf, opensIt}
+use Rattle.runs.specs.Run.{Step, Cycle, Turn, Clear, Tick, Ask, Call, Commit, Given, Reply, World, withState, numberOf, plain, giving, cycles, logs, audits, step, onCycle, Body, bodyOf, lockOf, opensIt}
 use Rattle.runs.proofs.Exactly.{exactly, done-exactly}
 use Rattle.runs.proofs.Groups.{turn-is, reply-is, call-is, nothing-given, sessionBy, givesAt, printed-turn, printed-question, printed-call}
 
@@ -33,6 +34,7 @@ abbrev pub after : Step → World → World
 after (Cycle r) w = (cycles w (cycled (w .state) r (w .archive) (w .log))) .0
 after (Turn turn) w = (logs w (turned (w .state) (lockOf turn) (opensIt turn) (w .log))) .0
 after Clear w = withState w (cleared (w .state))
+after (Tick named) w = withState w (ticked (w .state) named)
 after (Ask question) w = w
 after (Call door act) w = withState w (withSession (w .state) door (sessionBy act (sessionAt (w .state) door)))
 after (Commit door) w = record {
@@ -47,6 +49,7 @@ abbrev pub givenBy : Step → World → Given
 givenBy (Cycle r) w = given.Nothing
 givenBy (Turn turn) w = given.Nothing
 givenBy Clear w = given.Nothing
+givenBy (Tick named) w = given.Emitted (emittedOf (allTicked named (w .state .core .outputs) .emitted))
 givenBy (Ask question) w = asking question (bodyOf w) .gives
 givenBy (Call door act) w = givesAt door act (w .state)
 givenBy (Commit door) w = given.Nothing
@@ -57,7 +60,7 @@ through : {A B : Type 0} (f : A → B) (t : Bool) (y n : A) → f (cond t y n) �
 through f true y n = refl
 through f false y n = refl
 
-same-either : {A : Type 0} (t : Bool) (y : A) → cond t y y ≡ y
+pub same-either : {A : Type 0} (t : Bool) (y : A) → cond t y y ≡ y
 same-either true y = refl
 same-either false y = refl
 
@@ -75,10 +78,11 @@ settled : (w : World) (k : ℕ) (v : Given) (y : State) → _≡_ {A = World × 
 settled w k v y = ap (λ (u : World). (u, giving k v)) (through (withState w) (eqb k 0) y (w .state))
 
 pub step-is : (x : Step) (w : World) → Comes x w (step x w)
-unfolding cycleOf cycleRefusal cycled turned clearBy clearRefusal commitOf commitRefusal
+unfolding cycleOf cycleRefusal cycled turned clearBy clearRefusal tickBy tickRefusal commitOf commitRefusal
 step-is (Cycle r) w = let k = firstOf (rowsOf (Cycle r) w) in chosen (cycles w) _ _ k (after (Cycle r) w) w (eqb k 0) refl refl refl
 step-is (Turn turn) w = let k = firstOf (rowsOf (Turn turn) w) in ap (logs w) (turn-is turn w) ∙ chosen (logs w) _ _ k (after (Turn turn) w) w (eqb k 0) refl refl refl
 step-is Clear w = let k = firstOf (rowsOf Clear w) in rw (nothing-given k) (settled w k given.Nothing (cleared (w .state)))
+step-is (Tick named) w = settled w (firstOf (rowsOf (Tick named) w)) (givenBy (Tick named) w) (ticked (w .state) named)
 step-is (Ask question) w = let k = firstOf (rowsOf (Ask question) w) in rw (same-either (eqb k 0) w) (ap (λ (r : Reply). (w, r)) (reply-is question w))
 step-is (Call door act) w = call-is door act w ∙ settled w (firstOf (rowsOf (Call door act) w)) (givesAt door act (w .state)) _
 step-is (Commit door) w =
@@ -98,15 +102,17 @@ pub on-cycle : {A B : Type 0} (h : A → B) (f : Brought → A) (d : A) (x : Ste
 on-cycle h f d (Cycle r) = refl
 on-cycle h f d (Turn turn) = refl
 on-cycle h f d Clear = refl
+on-cycle h f d (Tick named) = refl
 on-cycle h f d (Ask question) = refl
 on-cycle h f d (Call door act) = refl
 on-cycle h f d (Commit door) = refl
 
 pub measured-by : (x : Step) (w : World) → (after x w) .state .core .measured ≡ onCycle (λ r. cycledCore (w .state .core) r .measured) (w .state .core .measured) x
-unfolding cycled turned turnedCore cleared withSession placed committed committedCore
+unfolding cycled turned turnedCore cleared ticked withSession placed committed committedCore
 measured-by (Cycle r) w = refl
 measured-by (Turn turn) w = refl
 measured-by Clear w = refl
+measured-by (Tick named) w = refl
 measured-by (Ask question) w = refl
 measured-by (Call door act) w = refl
 measured-by (Commit door) w = refl
@@ -122,6 +128,7 @@ pub printed : (x : Step) (w : World) → printedAfter 0 (rowsOf x w) ≡ true
 printed (Cycle r) w = refl
 printed (Turn turn) w = printed-turn turn w
 printed Clear w = refl
+printed (Tick named) w = refl
 printed (Ask question) w = printed-question question w
 printed (Call door act) w = printed-call door act (w .state)
 printed (Commit door) w = refl
@@ -219,6 +226,7 @@ unfolding refusedCommit
 refused-body (Cycle r) w k = refl
 refused-body (Turn turn) w k = refl
 refused-body Clear w k = refl
+refused-body (Tick named) w k = refl
 refused-body (Ask question) w k = refl
 refused-body (Call door act) w k = refl
 refused-body (Commit door) w k = rw (ended-core w door (endsRefused k))

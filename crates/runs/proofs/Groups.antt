@@ -1,7 +1,7 @@
 -- The groups: what the commands of a group come to, said once for the group. A clause for each command stands here and nowhere else.
 -- Assumes nothing.
-use mathlib.Core.Path.{_≡_, refl, sym, ap, _∙_}
-use mathlib.Core.Bool.{Bool, true, false, not, cond, _&&_, and-true}
+use mathlib.Core.Path.{_≡_, refl}
+use mathlib.Core.Bool.{Bool, true, false, cond, and-true}
 use Prim.Native.Nat.{ℕ}
 use lib.Dec.{eqb}
 use Rattle.state.specs.declared.Session.{Session}
@@ -9,10 +9,9 @@ use Rattle.state.specs.declared.State.{State}
 use Rattle.state.specs.State.{noSession, wholeB}
 use Rattle.state.specs.Card.{firstOf}
 use Rattle.asked.specs.Asked.{lineRefusal, lineGiven}
-use Rattle.panel.specs.Panel.{turned, refusedTurn, openRefusal, openOf, shutRefusal, shutOf, reportRefusal, reportBy}
-use Rattle.doors.specs.Doors.{sessionAt, withSession, cellAt, withCell, begun, markedRead, stagedCell, valueRead, beginRefusal, beginBy, beginOf, abandonRefusal, abandonBy, abandonOf, readRefusal, readAfter, readBy, readOf, writeRefusal, writeAfter, writeBy, writeOf}
+use Rattle.panel.specs.Panel.{turned, refusedTurn, openRefusal, openOf, shutRefusal, shutOf, reportRefusal, reportBy, outputsOf}
+use Rattle.doors.specs.Doors.{sessionAt, withSession, cellAt, withCell, begun, markedRead, stagedCell, valueRead, beginRefusal, beginBy, abandonRefusal, abandonBy, readRefusal, readAfter, readBy, writeRefusal, writeAfter, writeBy}
 use Rattle.commands.specs.declared.Given.the-variants as given
-use Rattle.runs.specs.Exactly.{Rows}
 use Rattle.runs.specs.Rows.{asking, turnRows, callRows, rowsOf, printedAfter}
 use Rattle.runs.specs.Run.{LockTurn, Open, Shut, Question, Act, Begin, Read, Write, Abandon, Turn, Ask, Call, Given, Reply, World, withState, plain, giving, lockTurned, replyTo, callOf, bodyOf, lockOf, opensIt}
 use Rattle.commands.specs.declared.Question.the-variants as question
@@ -28,8 +27,9 @@ turn-is (Shut lock) w = refl
 -- ---- questions
 
 pub reply-is : (x : Question) (w : World) → replyTo x w ≡ giving (firstOf (rowsOf (Ask x) w)) (asking x (bodyOf w) .gives)
-unfolding reportBy reportRefusal lineGiven lineRefusal
+unfolding reportBy reportRefusal outputsOf lineGiven lineRefusal
 reply-is question.Report w = rw (and-true (wholeB (w .state)))
+reply-is question.Outputs w = rw (and-true (wholeB (w .state)))
 reply-is (question.Archive i) w = refl
 reply-is (question.Log i) w = refl
 reply-is (question.Audit i) w = refl
@@ -76,6 +76,7 @@ printed-turn (Shut lock) w = refl
 
 pub printed-question : (x : Question) (w : World) → printedAfter 1 (asking x (bodyOf w) .rows) ≡ true
 printed-question question.Report w = refl
+printed-question question.Outputs w = refl
 printed-question (question.Archive i) w = refl
 printed-question (question.Log i) w = refl
 printed-question (question.Audit i) w = refl

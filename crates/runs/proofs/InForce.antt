@@ -15,8 +15,8 @@ use Rattle.order.specs.Order.{run, trace}
 use Rattle.settings.specs.declared.Value.{Value}
 use Rattle.settings.specs.declared.Setting.{Setting}
 use Rattle.settings.specs.Settings.{settingCount, noSetting, valueAt, factorySettings, rows}
-use Rattle.ring.specs.Store.{listed}
-use Rattle.ring.proofs.Stores.{length-listed, getD-listed}
+use Rattle.ground.specs.Below.{listed}
+use Rattle.ground.proofs.Listed.{length-listed, getD-listed}
 use Rattle.books.specs.declared.ArchiveLine.{ArchiveLine}
 use Rattle.books.specs.declared.LogLine.{LogLine}
 use Rattle.books.specs.declared.AuditLine.{AuditLine}
@@ -26,13 +26,13 @@ use Rattle.state.specs.State.{blankCell, fresh, freshCore}
 use Rattle.state.specs.Card.{firstOf}
 use Rattle.state.proofs.Card.{not-false}
 use Rattle.cycle.specs.Cycle.{cycled, cycledCore}
-use Rattle.panel.specs.Panel.{turned, turnedCore, cleared, startOf, startRefusal}
+use Rattle.panel.specs.Panel.{turned, turnedCore, cleared, ticked, startOf, startRefusal}
 use Rattle.doors.specs.Doors.{noDoor, noSuchSetting, sessionAt, cellAt, placed, withSession, standsAt, asStand, committed, committedCore}
 use Rattle.staging.proofs.Force.{stand-length, stand-at}
 use Rattle.runs.specs.Rows.{rowsOf, refusedBy}
-use Rattle.runs.specs.Run.{Step, Cycle, Turn, Clear, Ask, Call, Commit, Begin, Read, Write, Abandon, World, Reply, numberOf, step, corrector, started, Body, bodyOf}
+use Rattle.runs.specs.Run.{Step, Cycle, Turn, Clear, Tick, Ask, Call, Commit, Begin, Read, Write, Abandon, World, Reply, numberOf, step, corrector, started, Body}
 use Rattle.runs.specs.History.{History, history}
-use Rattle.runs.specs.Stale.{Deed, deed}
+use Rattle.runs.specs.Stale.{deed}
 use Rattle.runs.specs.InForce.{lastWritten, forcedBy, inForce, settingOf, settingsIn}
 use Rattle.runs.proofs.Exactly.{silent}
 use Rattle.runs.proofs.Effects.{after, number-is, world-is, refused-body}
@@ -88,10 +88,11 @@ module _ (w : World) (past : History) (b : Both w past) (h : Forced w past) (a :
   }
 
   done-forced : (x : Step) → firstOf (rowsOf x w) ≡ 0 → Forced (after x w) ((x, a) ∷ past)
-  unfolding cycled cycledCore turned turnedCore cleared withSession placed
+  unfolding cycled cycledCore turned turnedCore cleared ticked withSession placed
   done-forced (Cycle r) z = kept (Cycle r) (after (Cycle r) w) refl (λ k. rw done)
   done-forced (Turn turn) z = kept (Turn turn) (after (Turn turn) w) refl (λ k. rw done)
   done-forced Clear z = kept Clear (after Clear w) refl (λ k. rw done)
+  done-forced (Tick named) z = kept (Tick named) (after (Tick named) w) refl (λ k. rw done)
   done-forced (Ask question) z = kept (Ask question) w refl (λ k. rw done)
   done-forced (Call door Begin) z = kept (Call door Begin) (after (Call door Begin) w) refl (λ k. rw done)
   done-forced (Call door Abandon) z = kept (Call door Abandon) (after (Call door Abandon) w) refl (λ k. rw done)

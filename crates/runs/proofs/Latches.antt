@@ -15,15 +15,15 @@ use Rattle.state.specs.declared.Measured.{Measured}
 use Rattle.state.specs.State.{noAlarm, fresh, freshCore}
 use Rattle.state.specs.Card.{firstOf}
 use Rattle.cycle.specs.Cycle.{alarmsFor, latchesAfter, cycledCore, cycled}
-use Rattle.panel.specs.Panel.{turnedCore, turned, clearedLatches, cleared, startOf, startRefusal}
+use Rattle.panel.specs.Panel.{turnedCore, turned, clearedLatches, cleared, ticked, startOf, startRefusal}
 use Rattle.doors.specs.Doors.{placed, withSession, readAfter, writeAfter, committedCore, committed}
-use Rattle.runs.specs.Run.{Step, Cycle, Turn, Clear, Ask, Call, Commit, onCycle, World, numberOf, step, corrector, started, Body, bodyOf}
+use Rattle.runs.specs.Run.{Step, Cycle, Turn, Clear, Tick, Ask, Call, Commit, onCycle, World, step, corrector, started, Body, bodyOf}
 use Rattle.runs.specs.History.{History, history}
 use Rattle.runs.specs.InForce.{settingsIn}
 use Rattle.runs.specs.Rows.{rowsOf, refusedBy}
 use Rattle.runs.specs.Latches.{Alarm, p, t, k, flagOf, latch, foundIn, latchAfter, latchIn, accepted, findsPresent, clearsAbsent, clearedIn}
 use Rattle.runs.proofs.Effects.{after, part-by, number-is, world-is, refused-body}
-use Rattle.runs.proofs.InForce.{Agreed, KeptByStep, all-forced, from-start}
+use Rattle.runs.proofs.InForce.{KeptByStep, all-forced, from-start}
 
 -- ---- present
 
@@ -87,10 +87,11 @@ clear-latch t l f = dropped (l .t) (f .t)
 clear-latch k l f = dropped (l .k) (f .k)
 
 accepted-latch : (a : Alarm) (x : Step) (w : World) → latchOf a (bodyOf (after x w)) ≡ (latch a w && not (clearsAbsent a x w) || findsPresent a x w)
-unfolding cycled cycledCore turned turnedCore cleared withSession placed readAfter writeAfter committed committedCore
+unfolding cycled cycledCore turned turnedCore cleared ticked withSession placed readAfter writeAfter committed committedCore
 accepted-latch a (Cycle r) w = cycle-latch a (w .state .core .latches) (alarmsFor (w .state .core .settings) r)
 accepted-latch a (Turn turn) w = kept (latch a w)
 accepted-latch a Clear w = clear-latch a (w .state .core .latches) (w .state .core .measured .alarms)
+accepted-latch a (Tick named) w = kept (latch a w)
 accepted-latch a (Ask question) w = kept (latch a w)
 accepted-latch a (Call door act) w = kept (latch a w)
 accepted-latch a (Commit door) w = kept (latch a w)
@@ -158,6 +159,7 @@ module _ (a : Alarm) (w : World) (past : History) (force : w .state .core .setti
   latch-told (Cycle r) l = rw force (back-round l (flagOf a (alarmsFor (settingsIn past) r)))
   latch-told (Turn turn) l = still l
   latch-told Clear l = rw found (only-present l (flagOf a (foundIn past)))
+  latch-told (Tick named) l = still l
   latch-told (Ask question) l = still l
   latch-told (Call door act) l = still l
   latch-told (Commit door) l = still l

@@ -13,6 +13,7 @@ pub mod Open
 pub mod Locks
 pub mod Seen
 pub mod Sums
+pub mod Outputs
 pub mod Totals
 pub mod Times
 pub mod Latches

@@ -3,7 +3,7 @@
 -- Assumes nothing.
 use mathlib.Core.Path.{_≡_, refl, sym, ap, _∙_}
 use mathlib.Core.Bool.{Bool, true, false, cond}
-use mathlib.Core.List.{List, [], _∷_, _++_, append-assoc, append-nil, reverse}
+use mathlib.Core.List.{List, [], _∷_, _++_, append-nil, reverse}
 use Prim.Native.Nat.{ℕ, zero, suc, _+_, _-_, _%_, _≤_, _<_}
 use native.Mathlib.Nat.{add-zero, zero-add, add-mod, mod-mod}
 use native.Mathlib.Omega.{arith}
@@ -27,13 +27,13 @@ use Rattle.state.specs.State.{blankCell, fresh, freshCore}
 use Rattle.state.proofs.Card.{not-false}
 use Rattle.notes.specs.Notes.{keep, numbered, logLine, logged}
 use Rattle.notes.proofs.Laws.{numbered-length}
-use Rattle.cycle.specs.Cycle.{monthLines, changes, alarmsFor, cycledCore, cycled}
-use Rattle.panel.specs.Panel.{lockIn, turnCodes, turnedCore, turned, cleared, startOf, startRefusal}
+use Rattle.cycle.specs.Cycle.{monthLines, changes, gainedFor, alarmsFor, cycledCore, cycled}
+use Rattle.panel.specs.Panel.{lockIn, turnCodes, turnedCore, turned, cleared, ticked, startOf, startRefusal}
 use Rattle.doors.specs.Doors.{noDoor, sessionAt, cellAt, placed, withSession, readAfter, writeAfter, Change, changesAmong, auditLine, audited, commitLines, committedCore, committed}
 use Rattle.books.specs.declared.ArchiveLine.{ArchiveLine}
 use Rattle.books.specs.declared.LogLine.{LogLine}
 use Rattle.books.specs.declared.AuditLine.{AuditLine}
-use Rattle.runs.specs.Run.{Step, Cycle, Turn, Clear, Ask, Call, Commit, onCycle, World, lockOf, opensIt, numberOf, step, corrector, started, Body, bodyOf}
+use Rattle.runs.specs.Run.{Step, Cycle, Turn, Clear, Tick, Ask, Call, Commit, onCycle, World, lockOf, opensIt, numberOf, step, corrector, started, Body, bodyOf}
 use Rattle.runs.specs.Rows.{rowsOf, refusedBy}
 use Rattle.runs.specs.History.{History, history, lastTime, startTime}
 use Rattle.runs.specs.Stale.{hasStaged}
@@ -46,6 +46,8 @@ use Rattle.runs.proofs.Exactly.{silent}
 use Rattle.runs.proofs.Stale.{Known, known-at, in-table}
 use Rattle.runs.proofs.InForce.{Agreed, all-forced}
 use Rattle.runs.proofs.Locks.{said-in, turned-lock}
+use Rattle.runs.specs.Outputs.{lossesFor}
+use Rattle.runs.proofs.Outputs.{losses-told}
 use Rattle.runs.proofs.Told.{Told, month-told, counters-told, from-start-told}
 
 -- What a store supplies. `writes` are the lines of an accepted step, by the state before it; where the state tells of n lines, they are told after
@@ -117,10 +119,11 @@ no-more : {A : Type 0} (f : ℕ → A) (a : A) (n : ℕ) → a ≡ f n → a ≡
 no-more f a n e = rw add-zero e
 
 archive-tells : (x : Step) (w : World) (n : ℕ) → ArchiveTells n (bodyOf w) → ArchiveTells (n + length (archiveBy x w)) (bodyOf (after x w))
-unfolding cycled cycledCore turned turnedCore cleared withSession placed readAfter writeAfter committed committedCore
+unfolding cycled cycledCore turned turnedCore cleared ticked withSession placed readAfter writeAfter committed committedCore
 archive-tells (Cycle r) w n e = rw e (ring-advances archiveLines n (length (archiveBy (Cycle r) w)) (omega arith))
 archive-tells (Turn turn) w n e = no-more (ringAfter archiveLines) (w .state .core .stores .archive) n e
 archive-tells Clear w n e = no-more (ringAfter archiveLines) (w .state .core .stores .archive) n e
+archive-tells (Tick named) w n e = no-more (ringAfter archiveLines) (w .state .core .stores .archive) n e
 archive-tells (Ask question) w n e = no-more (ringAfter archiveLines) (w .state .core .stores .archive) n e
 archive-tells (Call door act) w n e = no-more (ringAfter archiveLines) (w .state .core .stores .archive) n e
 archive-tells (Commit door) w n e = no-more (ringAfter archiveLines) (w .state .core .stores .archive) n e
@@ -130,6 +133,7 @@ unfolding written cycled turned
 archive-stores (Cycle r) w = refl
 archive-stores (Turn turn) w = refl
 archive-stores Clear w = refl
+archive-stores (Tick named) w = refl
 archive-stores (Ask question) w = refl
 archive-stores (Call door act) w = refl
 archive-stores (Commit door) w = refl
@@ -155,9 +159,10 @@ archiveKept = record {
 -- ---- the logbook
 
 abbrev pub logBy : Step → World → List LogLine
-logBy (Cycle r) w = logged (w .state .core .stores .log) (r .time) (changes (w .state .core .measured .alarms) (alarmsFor (w .state .core .settings) r))
+logBy (Cycle r) w = logged (w .state .core .stores .log) (r .time) (changes (w .state .core .measured .alarms) (alarmsFor (w .state .core .settings) r) (gainedFor (w .state .core .settings) r (w .state .core .outputs) .over))
 logBy (Turn turn) w = logged (w .state .core .stores .log) (w .state .core .measured .time) (turnCodes (lockIn (w .state .core .locks) (lockOf turn)) (lockOf turn) (opensIt turn))
 logBy Clear w = []
+logBy (Tick named) w = []
 logBy (Ask question) w = []
 logBy (Call door act) w = []
 logBy (Commit door) w = []
@@ -173,10 +178,11 @@ log-on w n time codes e =
     rw (numbered-length (logLine time) (w .state .core .stores .log .number) codes, e) (book-advances logLines n (length codes) (omega arith))
 
 pub log-tells : (x : Step) (w : World) (n : ℕ) → LogTells n (bodyOf w) → LogTells (n + length (logBy x w)) (bodyOf (after x w))
-unfolding cycled cycledCore turned turnedCore cleared withSession placed readAfter writeAfter committed committedCore
-log-tells (Cycle r) w n e = log-on w n (r .time) (changes (w .state .core .measured .alarms) (alarmsFor (w .state .core .settings) r)) e
+unfolding cycled cycledCore turned turnedCore cleared ticked withSession placed readAfter writeAfter committed committedCore
+log-tells (Cycle r) w n e = log-on w n (r .time) (changes (w .state .core .measured .alarms) (alarmsFor (w .state .core .settings) r) (gainedFor (w .state .core .settings) r (w .state .core .outputs) .over)) e
 log-tells (Turn turn) w n e = log-on w n (w .state .core .measured .time) (turnCodes (lockIn (w .state .core .locks) (lockOf turn)) (lockOf turn) (opensIt turn)) e
 log-tells Clear w n e = no-more (bookAfter logLines) (w .state .core .stores .log) n e
+log-tells (Tick named) w n e = no-more (bookAfter logLines) (w .state .core .stores .log) n e
 log-tells (Ask question) w n e = no-more (bookAfter logLines) (w .state .core .stores .log) n e
 log-tells (Call door act) w n e = no-more (bookAfter logLines) (w .state .core .stores .log) n e
 log-tells (Commit door) w n e = no-more (bookAfter logLines) (w .state .core .stores .log) n e
@@ -186,6 +192,7 @@ unfolding written cycled turned
 log-stores (Cycle r) w = refl
 log-stores (Turn turn) w = refl
 log-stores Clear w = refl
+log-stores (Tick named) w = refl
 log-stores (Ask question) w = refl
 log-stores (Call door act) w = refl
 log-stores (Commit door) w = refl
@@ -202,11 +209,13 @@ logged-from n time b codes e = numbered-from (logLine time) logLines n b codes e
 log-by-history : (t a b n : ℕ) (x : Step) (w : World) (past : History) → Agreed w past → Told t a b w past → LogTells n (bodyOf w) → firstOf (rowsOf x w) ≡ 0
     → logBy x w ≡ logFor t n x past
 log-by-history t a b n (Cycle r) w past h s e z =
-    rw (s .found, all-forced w past (h .force)) (logged-from n (r .time) (w .state .core .stores .log) (changes (foundIn past) (alarmsFor (settingsIn past) r)) e)
+    rw (losses-told w past (all-forced w past (h .force)) (s .outputs) r (silent (rowsOf (Cycle r) w) refl z 14), s .found, all-forced w past (h .force))
+    (logged-from n (r .time) (w .state .core .stores .log) (changes (foundIn past) (alarmsFor (settingsIn past) r) (lossesFor r past)) e)
 log-by-history t a b n (Turn turn) w past h s e z =
     let at : lockIn (w .state .core .locks) (lockOf turn) ≡ lockAt (lockOf turn) past = rw (s .locks) (said-in a b past (lockOf turn) (turned-lock turn w z)) in
     rw (at, s .time) (logged-from n (lastTime t past) (w .state .core .stores .log) (turnCodes (lockAt (lockOf turn) past) (lockOf turn) (opensIt turn)) e)
 log-by-history t a b n Clear w past h s e z = refl
+log-by-history t a b n (Tick named) w past h s e z = refl
 log-by-history t a b n (Ask question) w past h s e z = refl
 log-by-history t a b n (Call door act) w past h s e z = refl
 log-by-history t a b n (Commit door) w past h s e z = refl
@@ -232,6 +241,7 @@ abbrev pub auditBy : Step → World → List AuditLine
 auditBy (Cycle r) w = []
 auditBy (Turn turn) w = []
 auditBy Clear w = []
+auditBy (Tick named) w = []
 auditBy (Ask question) w = []
 auditBy (Call door act) w = []
 auditBy (Commit door) w = commitLines (w .state) door
@@ -240,10 +250,11 @@ abbrev pub AuditTells : ℕ → Body → Type 0
 AuditTells n b = b .core .stores .audit ≡ bookAfter auditLines n
 
 pub audit-tells : (x : Step) (w : World) (n : ℕ) → AuditTells n (bodyOf w) → AuditTells (n + length (auditBy x w)) (bodyOf (after x w))
-unfolding cycled cycledCore turned turnedCore cleared withSession placed readAfter writeAfter committed committedCore
+unfolding cycled cycledCore turned turnedCore cleared ticked withSession placed readAfter writeAfter committed committedCore
 audit-tells (Cycle r) w n e = no-more (bookAfter auditLines) (w .state .core .stores .audit) n e
 audit-tells (Turn turn) w n e = no-more (bookAfter auditLines) (w .state .core .stores .audit) n e
 audit-tells Clear w n e = no-more (bookAfter auditLines) (w .state .core .stores .audit) n e
+audit-tells (Tick named) w n e = no-more (bookAfter auditLines) (w .state .core .stores .audit) n e
 audit-tells (Ask question) w n e = no-more (bookAfter auditLines) (w .state .core .stores .audit) n e
 audit-tells (Call door act) w n e = no-more (bookAfter auditLines) (w .state .core .stores .audit) n e
 audit-tells (Commit door) w n e =
@@ -255,6 +266,7 @@ unfolding written cycled turned
 audit-stores (Cycle r) w = refl
 audit-stores (Turn turn) w = refl
 audit-stores Clear w = refl
+audit-stores (Tick named) w = refl
 audit-stores (Ask question) w = refl
 audit-stores (Call door act) w = refl
 audit-stores (Commit door) w = refl
@@ -295,6 +307,7 @@ audit-by-history : (t a b n : ℕ) (x : Step) (w : World) (past : History) → A
 audit-by-history t a b n (Cycle r) w past h s e z = refl
 audit-by-history t a b n (Turn turn) w past h s e z = refl
 audit-by-history t a b n Clear w past h s e z = refl
+audit-by-history t a b n (Tick named) w past h s e z = refl
 audit-by-history t a b n (Ask question) w past h s e z = refl
 audit-by-history t a b n (Call door act) w past h s e z = refl
 audit-by-history t a b n (Commit door) w past h s e z =

@@ -1,7 +1,7 @@
 -- Locks, exactly: after any run from a start the locks stand where the history says, with the start's codes. So Open is refused by 8, Clear by 10,
 -- and a turn writes its line, by what the history says. By the length of the run.
 -- Assumes nothing.
-use mathlib.Core.Path.{_≡_, refl, sym, ap, _∙_}
+use mathlib.Core.Path.{_≡_, refl, ap, _∙_}
 use mathlib.Core.Bool.{Bool, true, false, not, cond, _||_, true≢false}
 use mathlib.Core.Logic.{_↔_}
 use mathlib.Core.List.{List, [], _∷_}
@@ -22,11 +22,11 @@ use Rattle.state.specs.declared.Locks.{Locks}
 use Rattle.state.specs.State.{fresh, freshCore, shutLocks}
 use Rattle.state.specs.Card.{firstOf}
 use Rattle.cycle.specs.Cycle.{cycledCore, cycled}
-use Rattle.panel.specs.Panel.{noLock, lockIn, withLock, rightCode, turnCodes, turnedCore, turned, cleared, startOf, startRefusal}
+use Rattle.panel.specs.Panel.{noLock, lockIn, withLock, rightCode, turnCodes, turnedCore, turned, cleared, ticked, startOf, startRefusal}
 use Rattle.doors.specs.Doors.{placed, withSession, committedCore, committed}
 use Rattle.runs.specs.Exactly.{earlier}
 use Rattle.runs.specs.Rows.{rowsOf, unsound, refusedBy}
-use Rattle.runs.specs.Run.{Step, LockTurn, Open, Shut, Cycle, Turn, Clear, Ask, Call, Commit, Reply, World, lockOf, opensIt, numberOf, step, corrector, started, Body, bodyOf}
+use Rattle.runs.specs.Run.{Step, LockTurn, Open, Shut, Cycle, Turn, Clear, Tick, Ask, Call, Commit, Reply, World, lockOf, opensIt, numberOf, step, corrector, started, Body, bodyOf}
 use Rattle.runs.specs.Lines.{logFor}
 use Rattle.runs.specs.History.{History, history, done, lastTime}
 use Rattle.runs.specs.Locks.{onTurn, lockBy, lockAt, locksIn, startCode, wrongCode, mayClear, moves}
@@ -44,10 +44,11 @@ abbrev locksBy : Step → Locks → Locks
 locksBy x l = onTurn (λ turn. withLock l (lockOf turn) (opensIt turn)) l x
 
 accepted-locks : (x : Step) (w : World) → locksOf (bodyOf (after x w)) ≡ locksBy x (w .state .core .locks)
-unfolding cycled cycledCore turned turnedCore cleared withSession placed committed committedCore
+unfolding cycled cycledCore turned turnedCore cleared ticked withSession placed committed committedCore
 accepted-locks (Cycle r) w = refl
 accepted-locks (Turn turn) w = refl
 accepted-locks Clear w = refl
+accepted-locks (Tick named) w = refl
 accepted-locks (Ask question) w = refl
 accepted-locks (Call door act) w = refl
 accepted-locks (Commit door) w = refl
@@ -66,6 +67,7 @@ unfolding withLock
 done-said a b (Cycle r) past = refl
 done-said a b (Turn turn) past = refl
 done-said a b Clear past = refl
+done-said a b (Tick named) past = refl
 done-said a b (Ask question) past = refl
 done-said a b (Call door act) past = refl
 done-said a b (Commit door) past = refl

@@ -27,7 +27,7 @@ use Rattle.commands.specs.declared.Question.the-variants as question
 use Rattle.runs.specs.Exactly.{applies, earlier, listsNumber, orderlyB}
 use Rattle.runs.specs.Exactly as exact
 use Rattle.runs.specs.Rows.{asking, rowsOf}
-use Rattle.runs.specs.Run.{Step, Question, Cycle, Turn, Clear, Ask, Call, Commit, World, numberOf, step, corrector, started, Body, bodyOf}
+use Rattle.runs.specs.Run.{Step, Question, Cycle, Turn, Clear, Tick, Ask, Call, Commit, World, numberOf, step, corrector, started, Body, bodyOf}
 use Rattle.runs.specs.History.{History, history}
 use Rattle.runs.specs.Never.{Sized, laterRows, metIn}
 use Rattle.runs.proofs.Exactly.{exactly, done-exactly, listed}
@@ -73,6 +73,7 @@ module _ (w : World) (s : Ready w) where
 
   lent-full : (q : Question) → asking q (bodyOf w) .lent ≡ true
   lent-full question.Report = refl
+  lent-full question.Outputs = refl
   lent-full (question.Archive i) = archive-full
   lent-full (question.Log i) = log-full
   lent-full (question.Audit i) = audit-full
@@ -81,6 +82,7 @@ module _ (w : World) (s : Ready w) where
   first-row (Cycle r) = rw (s .whole, archive-full, log-full)
   first-row (Turn turn) = rw (s .whole, log-full)
   first-row Clear = rw (s .whole)
+  first-row (Tick named) = rw (s .whole)
   first-row (Ask q) = rw (s .whole, lent-full q)
   first-row (Call door act) = rw (s .whole)
   first-row (Commit door) = rw (s .whole, audit-full)

@@ -14,7 +14,7 @@ use Rattle.notes.proofs.Laws.{numbered-length}
 use Rattle.books.specs.declared.LogLine.{LogLine}
 use Rattle.books.specs.declared.AuditLine.{AuditLine}
 use Rattle.doors.specs.Doors.{auditLine}
-use Rattle.runs.specs.Run.{Step, Cycle, Turn, Clear, Ask, Call, Commit}
+use Rattle.runs.specs.Run.{Step, Cycle, Turn, Clear, Tick, Ask, Call, Commit}
 use Rattle.runs.specs.History.{History, done, lastTime}
 use Rattle.runs.specs.Lines.{Shelf, logFor, logShelf, auditFor, auditShelf, wroteIn, numbersFrom}
 
@@ -61,6 +61,7 @@ log-numbers : (t n : ℕ) (x : Step) (past : History) → map (λ (l : LogLine).
 log-numbers t n (Cycle r) past = numbers-on (logLine (r .time)) (λ (l : LogLine). l .number) (λ k c. refl) n _
 log-numbers t n (Turn turn) past = numbers-on (logLine (lastTime t past)) (λ (l : LogLine). l .number) (λ k c. refl) n _
 log-numbers t n Clear past = refl
+log-numbers t n (Tick named) past = refl
 log-numbers t n (Ask question) past = refl
 log-numbers t n (Call door act) past = refl
 log-numbers t n (Commit door) past = refl
@@ -69,6 +70,7 @@ audit-numbers : (t n : ℕ) (x : Step) (past : History) → map (λ (l : AuditLi
 audit-numbers t n (Cycle r) past = refl
 audit-numbers t n (Turn turn) past = refl
 audit-numbers t n Clear past = refl
+audit-numbers t n (Tick named) past = refl
 audit-numbers t n (Ask question) past = refl
 audit-numbers t n (Call door act) past = refl
 audit-numbers t n (Commit door) past = numbers-on (auditLine (lastTime t past) door) (λ (l : AuditLine). l .number) (λ k c. refl) n _

@@ -22,11 +22,11 @@ use Rattle.state.specs.declared.State.{State}
 use Rattle.state.specs.State.{noSession, fresh}
 use Rattle.state.specs.Card.{firstOf}
 use Rattle.cycle.specs.Cycle.{cycled}
-use Rattle.panel.specs.Panel.{turned, cleared, startOf, startRefusal}
+use Rattle.panel.specs.Panel.{turned, cleared, ticked, startOf, startRefusal}
 use Rattle.doors.specs.Doors.{noDoor, noSuchSetting, sessionAt, otherAt, placed, withSession, withCell, begun, readAfter, writeAfter, overtakenSession, committed, endsRefused, refusedCommit}
 use Rattle.runs.specs.Exactly.{earlier}
 use Rattle.runs.specs.Rows.{rowsOf, unsound, notWhole, refusedBy}
-use Rattle.runs.specs.Run.{Step, Cycle, Turn, Clear, Ask, Call, Commit, Begin, Read, Write, Abandon, World, numberOf, step, corrector, started}
+use Rattle.runs.specs.Run.{Step, Cycle, Turn, Clear, Tick, Ask, Call, Commit, Begin, Read, Write, Abandon, World, numberOf, step, corrector, started}
 use Rattle.runs.specs.History.{History, history}
 use Rattle.runs.specs.Open.{openAfter, openAt}
 use Rattle.runs.proofs.Exactly.{silent}
@@ -72,10 +72,11 @@ commit-live s = both-doors _ refl refl refl refl
 -- ---- accepted
 
 done-open : (x : Step) (w : World) → firstOf (rowsOf x w) ≡ 0 → (door : ℕ) → noDoor door ≡ false → live (after x w .state) door ≡ openAfter door x 0 (live (w .state) door)
-unfolding sessionAt cycled turned cleared readAfter writeAfter
+unfolding sessionAt cycled turned cleared ticked readAfter writeAfter
 done-open (Cycle r) w z door e = refl
 done-open (Turn turn) w z door e = refl
 done-open Clear w z door e = refl
+done-open (Tick named) w z door e = refl
 done-open (Ask question) w z door e = refl
 done-open (Call d Begin) w z door e = begin-live (w .state) d (silent (rowsOf (Call d Begin) w) refl z 3) door e
 done-open (Call d Abandon) w z door e = end-live (w .state) d (silent (rowsOf (Call d Abandon) w) refl z 3) door e
@@ -105,6 +106,7 @@ unfolding refusedCommit
 refused-open (Cycle r) w k q z door e = refl
 refused-open (Turn turn) w k q z door e = refl
 refused-open Clear w k q z door e = refl
+refused-open (Tick named) w k q z door e = refl
 refused-open (Ask question) w k q z door e = refl
 refused-open (Call d Begin) w k q z door e = rw z
 refused-open (Call d Abandon) w k q z door e = rw z

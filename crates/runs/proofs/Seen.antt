@@ -15,12 +15,11 @@ use Rattle.settings.specs.declared.Value.{Value}
 use Rattle.settings.specs.declared.Setting.{Setting}
 use Rattle.settings.specs.Settings.{settingCount, noSetting, valueAt, orderedB, rightB}
 use Rattle.ring.specs.Ring.{auditLines}
-use Rattle.ring.specs.Store.{listed}
-use Rattle.ring.proofs.Stores.{length-listed, getD-listed}
+use Rattle.ground.specs.Below.{listed}
+use Rattle.ground.proofs.Listed.{length-listed, getD-listed}
 use Rattle.books.specs.declared.ArchiveLine.{ArchiveLine}
 use Rattle.books.specs.declared.LogLine.{LogLine}
 use Rattle.books.specs.declared.AuditLine.{AuditLine}
-use Rattle.state.specs.declared.Cell.{Cell}
 use Rattle.state.specs.declared.Session.{Session}
 use Rattle.state.specs.State.{blankCell}
 use Rattle.state.specs.Card.{firstOf}
@@ -34,13 +33,13 @@ use Rattle.runs.specs.Run.{Step, Call, Commit, Read, World, Reply, givin
 use Rattle.runs.specs.History.{History, history}
 use Rattle.runs.specs.Open.{openAt}
 use Rattle.runs.specs.Stale.{hasStaged}
-use Rattle.runs.specs.InForce.{lastWritten, inForce, settingOf, seenAt, wouldStand}
+use Rattle.runs.specs.InForce.{lastWritten, settingOf, seenAt, wouldStand}
 use Rattle.runs.specs.Locks.{lockAt, lacksLock}
 use Rattle.runs.proofs.Exactly.{silent}
 use Rattle.runs.proofs.Effects.{step-is, number-is, refused-when}
 use Rattle.runs.proofs.Stale.{Known, known-at, same-below, in-table}
 use Rattle.runs.proofs.Locks.{locks-exactly}
-use Rattle.runs.proofs.InForce.{Agreed, agreed, in-force-exactly, stood-at}
+use Rattle.runs.proofs.InForce.{agreed, in-force-exactly, stood-at}
 use Rattle.runs.proofs.Open.{open-exactly}
 
 -- of the rows before 10, 11 and 12: the door is one, and has a session

@@ -15,8 +15,6 @@ use Rattle.ground.proofs.Flags.{or-false-left, or-false-right}
 use Rattle.order.specs.Order.{Door, keypad, port, Act, at, Fate, goesOn, dropped, committed, opens, fate, Serialises}
 use Rattle.order.proofs.Order.{Build, Laws, slot, held, start, overtaken, coreBy, mineBy, theirsBy, fateOf, Fits, serialises}
 use Rattle.settings.specs.declared.Value.{Value}
-use Rattle.settings.specs.declared.Value.the-variants.{Whole}
-use lib.IntN.{pos}
 use Rattle.settings.specs.Settings.{settingCount, valueAt, fitsB, orderedB}
 use Rattle.ring.specs.Ring.{auditLines}
 use Rattle.ring.proofs.Stores.{written-length}
@@ -33,12 +31,11 @@ use Rattle.staging.proofs.Force.{unstaged-stands}
 use Rattle.doors.proofs.Stays.{session-each, read-sound, staged-sound}
 use Rattle.panel.specs.Panel.{startRefusal, startOf}
 use Rattle.doors.specs.Doors.{noSuchSetting, cellAt, withCell, begun, markedRead, stagedCell, lockMissing, staleB, asStand, overtakenSession, overtakenBy, committedCore, endsRefused}
-use Rattle.runs.specs.Run.{Step, Cycle, Turn, Clear, Ask, Call, Commit, Read, Write, World, Reply, plain, numberOf, step, verdictOf, corrector, started, Body}
+use Rattle.runs.specs.Run.{Step, Cycle, Turn, Clear, Tick, Ask, Call, Commit, Read, Write, World, Reply, plain, numberOf, step, verdictOf, corrector, started, Body}
 use Rattle.runs.proofs.Exactly.{silent}
 use Rattle.runs.proofs.Cells.{OpenSession, open-begun, open-with, open-overtaken, at-set, each-set, stale-set, overtaken-blank, quiet-same, quiet-read}
 use Rattle.runs.proofs.Aside.{world, alone, turnOf, whole, asides}
-use Rattle.runs.proofs.Calls.{AtDoor, stateAt, worldAt, AtCall, begins, reads, writes, commits, abandons, call-of, outsideOf, readIn, writeIn, commitRows, insideOf, linesIn, forcedBy}
-use Rattle.runs.proofs.Calls.{begin-outside, abandon-outside, read-outside, write-outside, commit-outside, begin-inside, abandon-inside, read-inside, write-inside, commit-done, commit-ended, commit-refused, forced-sound}
+use Rattle.runs.proofs.Calls.{AtDoor, stateAt, worldAt, AtCall, begins, reads, writes, commits, abandons, call-of, outsideOf, readIn, writeIn, commitRows, insideOf, linesIn, forcedBy, begin-outside, abandon-outside, read-outside, write-outside, commit-outside, begin-inside, abandon-inside, read-inside, write-inside, commit-done, commit-ended, commit-refused, forced-sound}
 
 -- ---- how the corrector is built
 
@@ -46,6 +43,7 @@ abbrev forceOf : Step → Body → Session → Body
 forceOf (Cycle r) b s = b
 forceOf (Turn turn) b s = b
 forceOf Clear b s = b
+forceOf (Tick named) b s = b
 forceOf (Ask question) b s = b
 forceOf (Call door act) b s = b
 forceOf (Commit door) b s = forcedBy door b s

@@ -27,12 +27,12 @@ use Rattle.state.specs.State.{blankCell, noSession, fresh}
 use Rattle.state.specs.Card.{firstOf}
 use Rattle.state.proofs.Card.{not-false}
 use Rattle.cycle.specs.Cycle.{cycled}
-use Rattle.panel.specs.Panel.{turned, cleared, startOf, startRefusal}
+use Rattle.panel.specs.Panel.{turned, cleared, ticked, startOf, startRefusal}
 use Rattle.doors.specs.Doors.{noDoor, noSuchSetting, sessionAt, otherAt, placed, withSession, cellAt, withCell, begun, markedRead, readAfter, stagedCell, writeAfter, lockMissing, overtakenAt, staleB, markedBy, overtakenSession, committed, endsRefused, refusedCommit}
 use Rattle.staging.proofs.Force.{marks-at}
 use Rattle.runs.specs.Exactly.{earlier}
 use Rattle.runs.specs.Rows.{rowsOf, unsound, refusedBy}
-use Rattle.runs.specs.Run.{Step, Cycle, Turn, Clear, Ask, Call, Commit, Begin, Read, Write, Abandon, World, Reply, numberOf, step, corrector, started}
+use Rattle.runs.specs.Run.{Step, Cycle, Turn, Clear, Tick, Ask, Call, Commit, Begin, Read, Write, Abandon, World, Reply, numberOf, step, corrector, started}
 use Rattle.runs.specs.History.{History, history}
 use Rattle.runs.specs.InForce.{writtenBy, lastWritten}
 use Rattle.runs.specs.Stale.{Deed, nothing, begins, commits, reads, writes, deed, beginsAt, commitsAt, readsAt, writesAt, hasRead, hasStaged, otherDoor, overtakenIn, stale}
@@ -308,10 +308,11 @@ module _ (w : World) (past : History) (b : Both w past) (a : Reply) (done : eqb 
       })
 
   done-both : (x : Step) → firstOf (rowsOf x w) ≡ 0 → Both (after x w) ((x, a) ∷ past)
-  unfolding cycled turned cleared
+  unfolding cycled turned cleared ticked
   done-both (Cycle r) z = idle-both (Cycle r, a) (after (Cycle r) w) past (rw done) (record { keypad = b .keypad; port = b .port })
   done-both (Turn turn) z = idle-both (Turn turn, a) (after (Turn turn) w) past (rw done) (record { keypad = b .keypad; port = b .port })
   done-both Clear z = idle-both (Clear, a) (after Clear w) past (rw done) (record { keypad = b .keypad; port = b .port })
+  done-both (Tick named) z = idle-both ((Tick named), a) (after (Tick named) w) past (rw done) (record { keypad = b .keypad; port = b .port })
   done-both (Ask question) z = idle-both (Ask question, a) w past (rw done) b
   done-both (Call door Begin) z = begin-both door (silent (rowsOf (Call door Begin) w) refl z 3)
   done-both (Call door Abandon) z = abandon-both door (silent (rowsOf (Call door Abandon) w) refl z 3)
@@ -337,6 +338,7 @@ unfolding refusedCommit
 refused-both (Cycle r) w n past b = b
 refused-both (Turn turn) w n past b = b
 refused-both Clear w n past b = b
+refused-both (Tick named) w n past b = b
 refused-both (Ask question) w n past b = b
 refused-both (Call door act) w n past b = b
 refused-both (Commit door) w n past b =

@@ -3,7 +3,7 @@
 -- Assumes nothing.
 use mathlib.Core.Path.{_≡_, refl, sym, ap, _∙_}
 use mathlib.Core.Bool.{Bool, true, false, cond, true≢false}
-use mathlib.Core.List.{List, [], _∷_}
+use mathlib.Core.List.{List}
 use Prim.Native.Nat.{ℕ, _+_, _%_}
 use native.Mathlib.Nat.{add-zero, mod-add-mod}
 use mathlib.Core.Logic.{_⊎_, inl, inr}
@@ -18,19 +18,19 @@ use Rattle.state.specs.State.{nothingCounted, fresh, freshCore}
 use Rattle.state.specs.Card.{firstOf}
 use Rattle.commands.specs.declared.Brought.{Brought}
 use Rattle.cycle.specs.Cycle.{amountsFor, isTooLarge, counted, anyAlarm, alarmsFor, cycledCore, cycled}
-use Rattle.panel.specs.Panel.{turnedCore, turned, cleared, startOf, startRefusal}
+use Rattle.panel.specs.Panel.{turnedCore, turned, cleared, ticked, startOf, startRefusal}
 use Rattle.doors.specs.Doors.{placed, withSession, readAfter, writeAfter, committedCore, committed}
 use Rattle.books.specs.declared.ArchiveLine.{ArchiveLine}
 use Rattle.books.specs.declared.LogLine.{LogLine}
 use Rattle.books.specs.declared.AuditLine.{AuditLine}
-use Rattle.runs.specs.Run.{Step, Cycle, Turn, Clear, Ask, Call, Commit, onCycle, World, numberOf, step, corrector, started, Body, bodyOf}
+use Rattle.runs.specs.Run.{Step, Cycle, Turn, Clear, Tick, Ask, Call, Commit, onCycle, World, numberOf, step, corrector, started, Body, bodyOf}
 use Rattle.runs.specs.History.{History, history}
 use Rattle.runs.specs.InForce.{settingsIn}
 use Rattle.runs.specs.Sums.{Counter, Vm, VmD, VmT, Vb, VbD, VbT, litresBy, baseBy, putBy, amountOf, putIn, sumIn, shownBy, shows, rollover}
 use Rattle.runs.specs.Rows.{rowsOf}
 use Rattle.runs.proofs.Effects.{after, number-is, world-is, leaves}
 use Rattle.runs.proofs.Exactly.{silent}
-use Rattle.runs.proofs.InForce.{Agreed, KeptByStep, all-forced, from-start}
+use Rattle.runs.proofs.InForce.{KeptByStep, all-forced, from-start}
 
 abbrev countersIn : Body → Counters
 countersIn b = b .core .measured .counters
@@ -43,7 +43,7 @@ unfolding amountsFor amountsOf convertedOf isTooLarge litresBy baseBy
 amounts-by a r true e h = rw e
 amounts-by a r false e h = absurd (true≢false (rw e at h))
 
-amounts-are : (a : List Setting) (r : Brought) → isTooLarge (amountsFor a r) ≡ false → amountsFor a r ≡ Counted (litresOf (litresBy a r)) (baseOf (baseBy a r))
+pub amounts-are : (a : List Setting) (r : Brought) → isTooLarge (amountsFor a r) ≡ false → amountsFor a r ≡ Counted (litresOf (litresBy a r)) (baseOf (baseBy a r))
 amounts-are a r h = amounts-by a r (ltb (baseBy a r) baseRollover) refl h
 
 -- ---- one cycle
@@ -97,7 +97,7 @@ abbrev putsOn : Counter → Step → World → ℕ
 putsOn c x w = onCycle (λ r. cond (eqb (numberOf ((step x w) .1)) 0) (amountOf c (w .state .core .settings) r) 0) 0 x
 
 step-adds : (c : Counter) (x : Step) (w : World) (s : ℕ) → shows c w ≡ s % rollover c → shows c ((step x w) .0) ≡ (s + putsOn c x w) % rollover c
-unfolding turned turnedCore cleared withSession placed readAfter writeAfter committed committedCore
+unfolding turned turnedCore cleared ticked withSession placed readAfter writeAfter committed committedCore
 step-adds c (Cycle r) w s e =
     let k = firstOf (rowsOf (Cycle r) w) in
     ap (shows c) (world-is (Cycle r) w)
@@ -105,6 +105,7 @@ step-adds c (Cycle r) w s e =
     ∙ ap (λ (j : ℕ). (s + cond (eqb j 0) (amountOf c (w .state .core .settings) r) 0) % rollover c) (sym (number-is (Cycle r) w))
 step-adds c (Turn turn) w s e = kept c (Turn turn) w s e refl
 step-adds c Clear w s e = kept c Clear w s e refl
+step-adds c (Tick named) w s e = kept c (Tick named) w s e refl
 step-adds c (Ask question) w s e = kept c (Ask question) w s e refl
 step-adds c (Call door act) w s e = kept c (Call door act) w s e refl
 step-adds c (Commit door) w s e = kept c (Commit door) w s e refl

@@ -1,8 +1,8 @@
--- All that the state keeps of a run from a start is what the history tells: the time, the month, the counters, the alarms and the locks. The settings and
+-- All that the state keeps of a run from a start is what the history tells: the time, the month, the counters, the alarms, the locks and the outputs. The settings and
 -- the sessions stand in InForce.antt. By the length of the run.
 -- Assumes nothing.
-use mathlib.Core.Path.{_≡_, refl, sym, ap, _∙_}
-use mathlib.Core.Bool.{Bool, true, cond}
+use mathlib.Core.Path.{_≡_, refl, ap, _∙_}
+use mathlib.Core.Bool.{true, cond}
 use mathlib.Core.List.{List, [], _∷_}
 use Prim.Native.Nat.{ℕ, _%_}
 use lib.Dec.{leb, eqb}
@@ -13,7 +13,6 @@ use Rattle.books.specs.declared.ArchiveLine.{ArchiveLine}
 use Rattle.books.specs.declared.LogLine.{LogLine}
 use Rattle.books.specs.declared.AuditLine.{AuditLine}
 use Rattle.state.specs.declared.Counters.{Counters}
-use Rattle.state.specs.declared.Locks.{Locks}
 use Rattle.state.specs.State.{wholeB}
 use Rattle.state.proofs.Sound.{measured-sound, whole-sound}
 use Rattle.panel.proofs.Laws.{start-whole}
@@ -23,6 +22,7 @@ use Rattle.runs.specs.History.{History, history, timeBy, lastTime, start
 use Rattle.runs.specs.Locks.{locksIn, startCode}
 use Rattle.runs.specs.Sums.{Counter, Vm, VmD, VmT, Vb, VbD, VbT, sumIn, shows, rollover}
 use Rattle.runs.specs.Latches.{foundIn}
+use Rattle.runs.specs.Outputs.{outputsIn}
 use Rattle.runs.specs.Lines.{countersIn}
 use Rattle.runs.proofs.InForce.{Agreed, KeptByStep, from-start}
 use Rattle.runs.proofs.Times.{step-time, start-time}
@@ -30,6 +30,7 @@ use Rattle.runs.proofs.Sums.{sums-kept, start-shows}
 use Rattle.runs.proofs.Totals.{litres-shown, base-shown}
 use Rattle.runs.proofs.Latches.{found-kept, no-alarms}
 use Rattle.runs.proofs.Locks.{locks-kept, start-locks}
+use Rattle.runs.proofs.Outputs.{outputs-kept, start-outputs}
 
 -- t: the time of the start, a and b: its codes
 pub record Told (t a b : ℕ) (w : World) (past : History) : Type 0 where
@@ -38,6 +39,7 @@ pub record Told (t a b : ℕ) (w : World) (past : History) : Type 0 where
   pub found : w .state .core .measured .alarms ≡ foundIn past
   pub sums : (c : Counter) → shows c w ≡ sumIn c past % rollover c
   pub locks : w .state .core .locks ≡ locksIn a b past
+  pub outputs : w .state .core .outputs ≡ outputsIn past
 
 told-kept : (t a b : ℕ) → KeptByStep (Told t a b)
 told-kept t a b x w past h s = record {
@@ -46,6 +48,7 @@ told-kept t a b x w past h s = record {
   found = found-kept x w past h (s .found);
   sums = λ c. sums-kept c x w past h (s .sums c);
   locks = locks-kept a b x w past (s .locks);
+  outputs = outputs-kept x w past h (s .outputs);
 }
 
 module _ (t a b : ℕ) (w : World) (past : History) (s : Told t a b w past) where
@@ -80,6 +83,7 @@ module _ (time supcode custcode : ℕ) (archive : List ArchiveLine) (log : List 
     found = no-alarms [] time supcode custcode archive log audit .0;
     sums = λ c. start-shows c [] time supcode custcode archive log audit;
     locks = start-locks time supcode custcode (leb endOfTime time) refl;
+    outputs = start-outputs time supcode custcode archive log audit;
   }
 
   -- what a step keeps, where the state is what the history tells, holds at the end of every run from a start

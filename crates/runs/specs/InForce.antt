@@ -9,7 +9,7 @@ use lib.Dec.{eqb}
 use Rattle.settings.specs.declared.Value.{Value}
 use Rattle.settings.specs.declared.Setting.{Setting}
 use Rattle.settings.specs.Settings.{settingCount, valueAt, factorySettings}
-use Rattle.ring.specs.Store.{listed}
+use Rattle.ground.specs.Below.{listed}
 use Rattle.runs.specs.History.{History}
 use Rattle.runs.specs.Stale.{Deed, nothing, begins, commits, reads, writes, deed, beginsAt}
 

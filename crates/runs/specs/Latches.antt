@@ -7,7 +7,7 @@ use lib.Dec.{eqb}
 use Rattle.state.specs.declared.Alarms.{Alarms}
 use Rattle.state.specs.State.{noAlarm}
 use Rattle.cycle.specs.Cycle.{alarmsFor}
-use Rattle.runs.specs.Run.{Step, Cycle, Turn, Clear, Ask, Call, Commit, onCycle, World, numberOf, step}
+use Rattle.runs.specs.Run.{Step, Cycle, Turn, Clear, Tick, Ask, Call, Commit, onCycle, World, numberOf, step}
 use Rattle.runs.specs.History.{History, done}
 use Rattle.runs.specs.InForce.{settingsIn}
 
@@ -39,6 +39,7 @@ abbrev pub latchAfter : Alarm → Step → History → Bool → Bool
 latchAfter a (Cycle r) past l = flagOf a (alarmsFor (settingsIn past) r) || l
 latchAfter a (Turn turn) past l = l
 latchAfter a Clear past l = l && flagOf a (foundIn past)
+latchAfter a (Tick named) past l = l
 latchAfter a (Ask question) past l = l
 latchAfter a (Call door act) past l = l
 latchAfter a (Commit door) past l = l
@@ -62,6 +63,7 @@ abbrev pub clearsAbsent : Alarm → Step → World → Bool
 clearsAbsent a (Cycle r) w = false
 clearsAbsent a (Turn turn) w = false
 clearsAbsent a Clear w = not (present a w)
+clearsAbsent a (Tick named) w = false
 clearsAbsent a (Ask question) w = false
 clearsAbsent a (Call door act) w = false
 clearsAbsent a (Commit door) w = false

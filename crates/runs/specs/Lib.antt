@@ -9,5 +9,6 @@ pub mod Stale
 pub mod InForce
 pub mod Locks
 pub mod Sums
+pub mod Outputs
 pub mod Latches
 pub mod Lines

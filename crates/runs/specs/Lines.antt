@@ -19,13 +19,14 @@ use Rattle.notes.specs.Notes.{keep, numbered, logLine}
 use Rattle.cycle.specs.Cycle.{monthLines, alarmsFor, changes}
 use Rattle.panel.specs.Panel.{turnCodes}
 use Rattle.doors.specs.Doors.{Change, auditLine}
-use Rattle.runs.specs.Run.{Step, Cycle, Turn, Clear, Ask, Call, Commit, onCycle, World, lockOf, opensIt}
+use Rattle.runs.specs.Run.{Step, Cycle, Turn, Clear, Tick, Ask, Call, Commit, onCycle, World, lockOf, opensIt}
 use Rattle.runs.specs.History.{History, done, lastTime}
 use Rattle.runs.specs.Stale.{hasStaged}
 use Rattle.runs.specs.InForce.{inForce, settingsIn, seenAt}
 use Rattle.runs.specs.Locks.{lockAt}
 use Rattle.runs.specs.Sums.{Vm, VmD, VmT, Vb, VbD, VbT, sumIn}
 use Rattle.runs.specs.Latches.{foundIn}
+use Rattle.runs.specs.Outputs.{lossesFor}
 
 -- A store: how many lines it can hold, what the state says of it, what is in it, and the lines that an accepted step writes, oldest first. Those
 -- depend on the time of the start, the number of lines written before, the step, and the history before it.
@@ -62,12 +63,13 @@ archiveShelf = record {
   lines = archiveFor;
 }
 
--- ---- the logbook: the alarms that came or went, at the cycle's own time; a lock that opened or shut, at the time of the last cycle
+-- ---- the logbook: the alarms that came or went and the outputs that lost pulses, at the cycle's own time; a lock that opened or shut, at the time of the last cycle
 
 abbrev pub logFor : ℕ → ℕ → Step → History → List LogLine
-logFor t n (Cycle r) past = numbered (logLine (r .time)) n (changes (foundIn past) (alarmsFor (settingsIn past) r))
+logFor t n (Cycle r) past = numbered (logLine (r .time)) n (changes (foundIn past) (alarmsFor (settingsIn past) r) (lossesFor r past))
 logFor t n (Turn turn) past = numbered (logLine (lastTime t past)) n (turnCodes (lockAt (lockOf turn) past) (lockOf turn) (opensIt turn))
 logFor t n Clear past = []
+logFor t n (Tick named) past = []
 logFor t n (Ask question) past = []
 logFor t n (Call door act) past = []
 logFor t n (Commit door) past = []
@@ -94,6 +96,7 @@ abbrev pub auditFor : ℕ → ℕ → Step → History → List AuditLine
 auditFor t n (Cycle r) past = []
 auditFor t n (Turn turn) past = []
 auditFor t n Clear past = []
+auditFor t n (Tick named) past = []
 auditFor t n (Ask question) past = []
 auditFor t n (Call door act) past = []
 auditFor t n (Commit door) past = numbered (auditLine (lastTime t past) door) n (changesIn door past settingCount)

@@ -9,7 +9,7 @@ use Rattle.calendar.specs.Calendar.{endOfTime}
 use Rattle.ground.specs.Below.{anyBelow}
 use Rattle.settings.specs.Settings.{settingCount, rightB}
 use Rattle.state.specs.declared.Locks.{Locks}
-use Rattle.runs.specs.Run.{Step, LockTurn, Open, Shut, Cycle, Turn, Clear, Ask, Call, Commit, lockOf, opensIt}
+use Rattle.runs.specs.Run.{Step, LockTurn, Open, Shut, Cycle, Turn, Clear, Tick, Ask, Call, Commit, lockOf, opensIt}
 use Rattle.runs.specs.History.{History, done}
 use Rattle.runs.specs.Stale.{hasStaged}
 
@@ -18,6 +18,7 @@ abbrev pub onTurn : {A : Type 0} → (LockTurn → A) → A → Step → A
 onTurn f d (Cycle r) = d
 onTurn f d (Turn turn) = f turn
 onTurn f d Clear = d
+onTurn f d (Tick named) = d
 onTurn f d (Ask question) = d
 onTurn f d (Call door act) = d
 onTurn f d (Commit door) = d

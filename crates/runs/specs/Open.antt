@@ -6,7 +6,7 @@ use mathlib.Core.Bool.{Bool, true, false, cond, _&&_, _||_}
 use mathlib.Core.List.{[], _∷_}
 use lib.Dec.{eqb}
 use Rattle.doors.specs.Doors.{endsRefused}
-use Rattle.runs.specs.Run.{Step, Cycle, Turn, Clear, Ask, Call, Commit, Begin, Read, Write, Abandon, numberOf}
+use Rattle.runs.specs.Run.{Step, Cycle, Turn, Clear, Tick, Ask, Call, Commit, Begin, Read, Write, Abandon, numberOf}
 use Rattle.runs.specs.History.{History}
 
 -- whether a session is open at the door after a step that had the number n, given whether one was open before
@@ -14,6 +14,7 @@ abbrev pub openAfter : ℕ → Step → ℕ → Bool → Bool
 openAfter door (Cycle r) n before = before
 openAfter door (Turn turn) n before = before
 openAfter door Clear n before = before
+openAfter door (Tick named) n before = before
 openAfter door (Ask question) n before = before
 openAfter door (Call d Begin) n before = cond (eqb n 0 && eqb d door) true before
 openAfter door (Call d Abandon) n before = cond (eqb n 0 && eqb d door) false before

@@ -1,11 +1,12 @@
 -- The rows of the fault card, command by command, in the printed order: "Where several apply, 1 comes first, then 3, then 2 or 4, then the
--- rest in rising number."
+-- rest in rising number." Document 02, Three: 15, after 1.
 -- Assumes nothing.
 use Prim.Native.Nat.{ℕ, _-_}
 use mathlib.Core.Bool.{Bool, true, not, cond, _&&_, _||_}
 use mathlib.Core.List.{List, [], _∷_}
 use lib.Dec.{ltb, leb, eqb}
 use lib.ListN.{length, getD}
+use Rattle.outputs.specs.Four.{ruleAt, mostTick, allShown, shownOf}
 use Rattle.calendar.specs.Calendar.{endOfTime}
 use Rattle.units.specs.Units.{mostPulses}
 use Rattle.settings.specs.Settings.{fitsB, orderedB}
@@ -21,7 +22,7 @@ use Rattle.panel.specs.Panel.{noLock, rightCode, reported}
 use Rattle.doors.specs.Doors.{noDoor, noSuchSetting, sessionAt, lockMissing, staleB, asStand, refusedCommit}
 use Rattle.commands.specs.declared.Given.the-variants as given
 use Rattle.runs.specs.Exactly.{Rows}
-use Rattle.runs.specs.Run.{Step, LockTurn, Open, Shut, Question, Act, Begin, Read, Write, Abandon, Cycle, Turn, Clear, Ask, Call, Commit, Given, World, withState, Body, bodyOf}
+use Rattle.runs.specs.Run.{Step, LockTurn, Open, Shut, Question, Act, Begin, Read, Write, Abandon, Cycle, Turn, Clear, Tick, Ask, Call, Commit, Given, World, withState, Body, bodyOf}
 use Rattle.commands.specs.declared.Question.the-variants as question
 
 -- 1: the state is not whole, or a store lent to the call has not its exact length
@@ -48,6 +49,7 @@ askedLine give size none r l i =
 
 abbrev pub asking : Question → Body → Asked
 asking question.Report b = record { lent = true; rows = []; gives = given.Report (reported (b .core)) }
+asking question.Outputs b = record { lent = true; rows = []; gives = given.Outputs (shownOf (allShown (ruleAt (b .core .settings)) (b .core .outputs))) }
 asking (question.Archive i) b = askedLine given.Archive archiveLines noArchive (b .core .stores .archive) (b .archive) i
 asking (question.Log i) b = askedLine given.Log logLines noLog (b .core .stores .log .ring) (b .log) i
 asking (question.Audit i) b = askedLine given.Audit auditLines noAudit (b .core .stores .audit .ring) (b .audit) i
@@ -74,6 +76,7 @@ rowsOf (Cycle r) w =
     ∷ []
 rowsOf (Turn turn) w = (1, unsound w (eqb (length (w .log)) logLines)) ∷ turnRows turn (w .state .core .locks)
 rowsOf Clear w = (1, notWhole w) ∷ (10, not (w .state .core .locks .cal || w .state .core .locks .sup)) ∷ []
+rowsOf (Tick named) w = (1, notWhole w) ∷ (15, ltb mostTick named) ∷ []
 rowsOf (Ask question) w = (1, unsound w (asking question (bodyOf w) .lent)) ∷ asking question (bodyOf w) .rows
 rowsOf (Call door act) w = (1, notWhole w) ∷ callRows door act (w .state)
 rowsOf (Commit door) w =
@@ -87,9 +90,9 @@ rowsOf (Commit door) w =
 
 -- the last number of the table
 abbrev pub lastNumber : ℕ
-lastNumber = 14
+lastNumber = 15
 
--- the printed order: 1, 3, 2, 4, 5, .. 14; a number's place in it
+-- the printed order: 1, 3, 2, 4, 5, .. 15; a number's place in it
 abbrev pub placeInTable : ℕ → ℕ
 placeInTable n = cond (eqb n 2) 3 (cond (eqb n 3) 2 n)
 
@@ -103,6 +106,7 @@ abbrev pub refusedBy : Step → World → ℕ → World
 refusedBy (Cycle r) w number = w
 refusedBy (Turn turn) w number = w
 refusedBy Clear w number = w
+refusedBy (Tick named) w number = w
 refusedBy (Ask question) w number = w
 refusedBy (Call door act) w number = w
 refusedBy (Commit door) w number = withState w (refusedCommit (w .state) door number)

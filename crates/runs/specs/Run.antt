@@ -21,7 +21,7 @@ pub use Rattle.commands.specs.declared.Question.{Question}
 pub use Rattle.commands.specs.declared.Act.{Act}
 pub use Rattle.commands.specs.declared.Act.the-variants.{Begin, Read, Write, Abandon}
 pub use Rattle.commands.specs.declared.Command.{Command}
-pub use Rattle.commands.specs.declared.Command.the-variants.{Cycle, Turn, Clear, Ask, Call, Commit}
+pub use Rattle.commands.specs.declared.Command.the-variants.{Cycle, Turn, Clear, Tick, Ask, Call, Commit}
 pub use Rattle.commands.specs.declared.Given.{Given}
 pub use Rattle.commands.specs.declared.Reply.{Reply}
 pub use Rattle.commands.specs.Answers.{World, plain, giving}
@@ -53,6 +53,7 @@ abbrev pub onCycle : {A : Type 0} → (Brought → A) → A → Step → A
 onCycle f d (Cycle r) = f r
 onCycle f d (Turn turn) = d
 onCycle f d Clear = d
+onCycle f d (Tick named) = d
 onCycle f d (Ask question) = d
 onCycle f d (Call door act) = d
 onCycle f d (Commit door) = d
@@ -82,6 +83,7 @@ abbrev pub role : Step → Role
 role (Cycle r) = aside
 role (Turn turn) = aside
 role Clear = aside
+role (Tick named) = aside
 role (Ask question) = aside
 role (Call door act) = roleAt door (actOf act)
 role (Commit door) = roleAt door order.Act.commit

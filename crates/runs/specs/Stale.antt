@@ -8,7 +8,7 @@ use lib.Dec.{eqb}
 use Rattle.ground.specs.Below.{anyBelow}
 use Rattle.settings.specs.declared.Value.{Value}
 use Rattle.settings.specs.Settings.{settingCount}
-use Rattle.runs.specs.Run.{Step, Cycle, Turn, Clear, Ask, Call, Commit, Begin, Read, Write, Abandon, Reply}
+use Rattle.runs.specs.Run.{Step, Cycle, Turn, Clear, Tick, Ask, Call, Commit, Begin, Read, Write, Abandon, Reply}
 use Rattle.runs.specs.History.{History, done}
 
 -- ---- what was done
@@ -24,6 +24,7 @@ abbrev pub deedOf : Step → Deed
 deedOf (Cycle r) = nothing
 deedOf (Turn turn) = nothing
 deedOf Clear = nothing
+deedOf (Tick named) = nothing
 deedOf (Ask question) = nothing
 deedOf (Call door Begin) = begins door
 deedOf (Call door Abandon) = nothing

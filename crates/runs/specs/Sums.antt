@@ -5,6 +5,7 @@ use Prim.Native.Nat.{ℕ, _+_, _*_}
 use mathlib.Core.Bool.{Bool, cond}
 use mathlib.Core.List.{List, [], _∷_}
 use Rattle.units.specs.Units.{litresRollover, baseRollover, pulseLitres}
+pub use Rattle.units.specs.Units.{Counter, Vm, VmD, VmT, Vb, VbD, VbT, putBy}
 use Rattle.settings.specs.declared.Setting.{Setting}
 use Rattle.settings.specs.Settings.{cp}
 use Rattle.state.specs.declared.Counters.{Counters}
@@ -14,9 +15,6 @@ use Rattle.runs.specs.Run.{Step, onCycle, World, Reply}
 use Rattle.runs.specs.History.{History, done}
 use Rattle.runs.specs.InForce.{settingsIn}
 
-pub data Counter : Type 0 where
-  Vm VmD VmT Vb VbD VbT : Counter
-
 -- n times the pulse value
 unfoldable pub litresBy : List Setting → Brought → ℕ
 litresBy a r = r .n * pulseLitres (naturalAt a cp)
@@ -25,18 +23,9 @@ litresBy a r = r .n * pulseLitres (naturalAt a cp)
 unfoldable pub baseBy : List Setting → Brought → ℕ
 baseBy a r = litresBy a r * factorFor a r
 
--- if any alarm is present in the cycle, the whole of both goes to VmD and VbD, and else to Vm and Vb; to VmT and VbT it goes in either case
+-- any alarm is present in the cycle
 abbrev pub disturbedBy : List Setting → Brought → Bool
 disturbedBy a r = anyAlarm (alarmsFor a r)
-
--- what goes to a counter, by: disturbed, litres, base amount
-abbrev pub putBy : Counter → Bool → ℕ → ℕ → ℕ
-putBy Vm disturbed litres base = cond disturbed 0 litres
-putBy VmD disturbed litres base = cond disturbed litres 0
-putBy VmT disturbed litres base = litres
-putBy Vb disturbed litres base = cond disturbed 0 base
-putBy VbD disturbed litres base = cond disturbed base 0
-putBy VbT disturbed litres base = base
 
 abbrev pub amountOf : Counter → List Setting → Brought → ℕ
 amountOf c a r = putBy c (disturbedBy a r) (litresBy a r) (baseBy a r)

@@ -2,7 +2,7 @@
 -- matter where one block ends and the next begins. `back` is the device with its stores as the last block handed it back. `last` is the run that is under
 -- way: it began with the last start, and its steps are the commands since.
 -- Assumes nothing.
-use Prim.Native.Nat.{ℕ, _%_}
+use Prim.Native.Nat.{ℕ, _%_, _<_}
 use mathlib.Core.Path.{_≡_, refl, sym, subst}
 use mathlib.Core.Logic.{_↔_}
 use mathlib.Core.Bool.{true, false}
@@ -12,6 +12,7 @@ use lib.Dec.{leb}
 use lib.ListN.{length, take, getD}
 use Rattle.order.specs.Order.{run, serial, steps, answers}
 use Rattle.calendar.specs.Calendar.{endOfTime}
+use Rattle.outputs.specs.Four.{outputCount}
 use Rattle.ring.specs.Ring.{archiveLines, logLines, auditLines}
 use Rattle.books.specs.declared.ArchiveLine.{ArchiveLine}
 use Rattle.books.specs.declared.LogLine.{LogLine}
@@ -25,12 +26,13 @@ use Rattle.commands.specs.declared.Echo.the-variants as echo
 use Rattle.commands.specs.Answers.{World}
 use Rattle.steps.specs.Step.{step}
 use Rattle.desk.specs.declared.Desk.{Desk}
-use Rattle.desk.specs.Desk.{noOutput, worldIn}
+use Rattle.desk.specs.Desk.{noResponse, worldIn}
 use Rattle.desk.specs.Desk as desk
 use Rattle.runs.specs.Run.{Commit, numberOf, corrector, closed, started}
 use Rattle.runs.specs.Exactly.{earlier}
 use Rattle.runs.specs.Rows.{rowsOf}
 use Rattle.runs.specs.Sums.{Counter, sumIn, shows, rollover}
+use Rattle.runs.specs.Outputs.{Balances}
 use Rattle.runs.specs.Lines.{archiveShelf, logShelf, auditShelf, wroteIn, holds}
 use Rattle.runs.specs.History.{history, startedAt}
 use Rattle.runs.specs.Stale.{stale}
@@ -38,12 +40,13 @@ use Rattle.runs.specs.Never.{laterRows, metIn}
 use Rattle.runs.proofs.Effects.{refused-exactly}
 use Rattle.runs.proofs.Keeps.{always-whole}
 use Rattle.runs.proofs.Sums.{sums}
+use Rattle.runs.proofs.Outputs.{balance}
 use Rattle.runs.proofs.Times.{start-time}
 use Rattle.runs.proofs.Lines.{archive-holds, log-holds, audit-holds}
 use Rattle.runs.proofs.Stale.{stale-exactly}
 use Rattle.runs.proofs.Sessions.{sessions-in-order}
 use Rattle.runs.proofs.Never.{never-met, never-one, earlier-without-one}
-use Rattle.served.specs.Served.{Run, endOf, lastRun, output, Block, linesOf, servedAll, Sized, Begun}
+use Rattle.served.specs.Served.{Run, endOf, lastRun, response, Block, linesOf, servedAll, Sized, Begun}
 use Rattle.served.proofs.Served.{block-by-block}
 use Rattle.served.proofs.Begun.{always-begun, fresh-begun}
 use Rattle.served.proofs.Refused.{served-refused}
@@ -82,6 +85,10 @@ module _ (bs : List Block) (time supcode custcode : ℕ) where
   -- THE SUMS: each counter of the desk shows, under its rollover, the sum of what the accepted cycles since the last start put on it
   pub served-sums : (c : Counter) → shows c back ≡ sumIn c (history (last .steps) (last .from)) % rollover c
   served-sums c = holds-of-the-desk (λ w xs v. shows c v ≡ sumIn c (history xs w) % rollover c) (λ t a b archive log audit s xs. sums c xs t a b archive log audit)
+
+  -- THE PULSES OF EACH OUTPUT: those due since the last start are those emitted, waiting and lost, modulo 2^32
+  pub served-pulses : (k : ℕ) → k < outputCount → Balances k back (history (last .steps) (last .from))
+  served-pulses k l = holds-of-the-desk (λ w xs v. Balances k v (history xs w)) (λ t a b archive log audit s xs. balance t a b archive log audit k l xs)
 
   -- THE ORDER OF THE SESSIONS: the steps since the last start, rearranged session by session, have the answers that they had and lead to the desk's
   -- device, its unfinished sessions apart
@@ -133,7 +140,7 @@ module _ (bs : List Block) (time supcode custcode : ℕ) where
 
   -- NO COMMAND AMONG THE LINES IS ANSWERED WITH 1, whatever runs and starts came before it
   pub shown-never-one : (before after : List Entry) (c : Command) → linesOf bs ≡ before ++ (entry.Put c ∷ after) → (r : Reply)
-      → getD ((servedAll bs fresh) .0) (length before) noOutput ≡ output (echo.Said r) → numberOf r ≡ 1 → ⊥
+      → getD ((servedAll bs fresh) .0) (length before) noResponse ≡ response (echo.Said r) → numberOf r ≡ 1 → ⊥
   shown-never-one before after c here r e q =
       let g = served-refused fresh bs before after c here r e 1 (omega arith) .0 q in
       of-a-run (λ w xs v. (x : Command) → numberOf ((step x v) .1) ≡ 1 → ⊥) (λ t a b archive log audit s xs. never-one t a b archive log audit s xs)

@@ -11,10 +11,10 @@ use Rattle.runs.proofs.Numbers.{map-join}
 use Rattle.commands.specs.Answers.{World}
 use Rattle.desk.specs.declared.Desk.{Desk}
 use Rattle.desk.specs.declared.Input.{Input}
-use Rattle.desk.specs.declared.Output.{Output}
+use Rattle.desk.specs.declared.Response.{Response}
 use Rattle.desk.specs.declared.Served.{Served}
-use Rattle.desk.specs.Desk.{block, noOutput, worldIn, deskOf, entered, entryAt, worldAfter, echoes, served}
-use Rattle.served.specs.Served.{endOf, lastRun, saidTo, input, output, ran, Block, linesIn, linesOf, servedAll}
+use Rattle.desk.specs.Desk.{block, noResponse, worldIn, deskOf, entered, entryAt, worldAfter, echoes, served}
+use Rattle.served.specs.Served.{endOf, lastRun, saidTo, input, response, ran, Block, linesIn, linesOf, servedAll}
 use Rattle.served.proofs.Sitting.{sitting, sitting-length, sitting-join, sitting-runs}
 
 -- ---- the world
@@ -32,11 +32,11 @@ world-is (e ∷ es) rest w = world-shift (input e) (map input es ++ rest) w (len
 -- ---- what is said
 
 -- to line k
-abbrev saidAt : World → List Input → ℕ → Output
-saidAt w inputs k = output ((entered (entryAt inputs k) (worldAfter w inputs k)) .1)
+abbrev saidAt : World → List Input → ℕ → Response
+saidAt w inputs k = response ((entered (entryAt inputs k) (worldAfter w inputs k)) .1)
 
 -- to the first k
-abbrev saids : World → List Input → ℕ → List Output
+abbrev saids : World → List Input → ℕ → List Response
 saids w inputs zero = []
 saids w inputs (suc k) = saids w inputs k ++ (saidAt w inputs k ∷ [])
 
@@ -48,29 +48,29 @@ set-at : {A : Type 0} (l : List A) (y z : A) (r : List A) → set (l ++ (y ∷ r
 set-at [] y z r = refl
 set-at (x ∷ l) y z r = ap (λ t. x ∷ t) (set-at l y z r)
 
-echoes-are : (w : World) (inputs : List Input) (k m : ℕ) → k + m ≡ block → echoes w inputs k ≡ saids w inputs k ++ replicate m noOutput
+echoes-are : (w : World) (inputs : List Input) (k m : ℕ) → k + m ≡ block → echoes w inputs k ≡ saids w inputs k ++ replicate m noResponse
 unfolding echoes
-echoes-are w inputs zero m e = let p : block ≡ m = omega (arith, e) in ap (λ (j : ℕ). replicate j noOutput) p
+echoes-are w inputs zero m e = let p : block ≡ m = omega (arith, e) in ap (λ (j : ℕ). replicate j noResponse) p
 echoes-are w inputs (suc k) m e =
-    let y : Output = saidAt w inputs k in
-    let old : List Output = saids w inputs k in
-    let r : List Output = replicate m noOutput in
-    ap (λ (l : List Output). set l k y) (echoes-are w inputs k (suc m) (omega (arith, e)))
-    ∙ ap (λ (j : ℕ). set (old ++ (noOutput ∷ r)) j y) (sym (saids-length w inputs k))
-    ∙ set-at old noOutput y r
+    let y : Response = saidAt w inputs k in
+    let old : List Response = saids w inputs k in
+    let r : List Response = replicate m noResponse in
+    ap (λ (l : List Response). set l k y) (echoes-are w inputs k (suc m) (omega (arith, e)))
+    ∙ ap (λ (j : ℕ). set (old ++ (noResponse ∷ r)) j y) (sym (saids-length w inputs k))
+    ∙ set-at old noResponse y r
     ∙ sym (append-assoc old (y ∷ []) r)
 
 saids-shift : (x : Input) (inputs : List Input) (w : World) (k : ℕ) → saids w (x ∷ inputs) (suc k) ≡ saidAt w (x ∷ inputs) 0 ∷ saids ((entered (x .entry) w) .0) inputs k
 saids-shift x inputs w zero = refl
 saids-shift x inputs w (suc k) =
-    ap (λ (l : List Output). l ++ (saidAt w (x ∷ inputs) (suc k) ∷ [])) (saids-shift x inputs w k)
-    ∙ ap (λ (v : World). saidAt w (x ∷ inputs) 0 ∷ (saids ((entered (x .entry) w) .0) inputs k ++ (output ((entered (entryAt inputs k) v) .1) ∷ []))) (world-shift x inputs w k)
+    ap (λ (l : List Response). l ++ (saidAt w (x ∷ inputs) (suc k) ∷ [])) (saids-shift x inputs w k)
+    ∙ ap (λ (v : World). saidAt w (x ∷ inputs) 0 ∷ (saids ((entered (x .entry) w) .0) inputs k ++ (response ((entered (entryAt inputs k) v) .1) ∷ []))) (world-shift x inputs w k)
 
-saids-are : (es : List Entry) (rest : List Input) (w : World) → saids w (map input es ++ rest) (length es) ≡ map output ((sitting es w) .0)
+saids-are : (es : List Entry) (rest : List Input) (w : World) → saids w (map input es ++ rest) (length es) ≡ map response ((sitting es w) .0)
 unfolding worldAfter sitting
 saids-are [] rest w = refl
 saids-are (e ∷ es) rest w =
-    saids-shift (input e) (map input es ++ rest) w (length es) ∙ ap (λ (l : List Output). output ((entered e w) .1) ∷ l) (saids-are es rest ((entered e w) .0))
+    saids-shift (input e) (map input es ++ rest) w (length es) ∙ ap (λ (l : List Response). response ((entered e w) .1) ∷ l) (saids-are es rest ((entered e w) .0))
 
 -- ---- one block
 
@@ -78,7 +78,7 @@ saids-are (e ∷ es) rest w =
 abbrev sat : Desk → List Entry → Served
 sat d es = record {
   desk = deskOf ((sitting es (worldIn d)) .1);
-  outputs = map output ((sitting es (worldIn d)) .0) ++ replicate (block - length es) noOutput;
+  responses = map response ((sitting es (worldIn d)) .0) ++ replicate (block - length es) noResponse;
 }
 
 sat-runs : (d : Desk) (es : List Entry) → sat d es ≡ ran d es
@@ -129,22 +129,22 @@ every-block d b = block-sat d b ∙ sat-runs d (linesIn b)
 -- ---- blocks one after another
 
 -- of what comes back for a block, the places of its lines
-sat-out : (d : Desk) (es : List Entry) → take (length es) (sat d es .outputs) ≡ map output ((sitting es (worldIn d)) .0)
+sat-out : (d : Desk) (es : List Entry) → take (length es) (sat d es .responses) ≡ map response ((sitting es (worldIn d)) .0)
 sat-out d es =
-    let l : List Output = map output ((sitting es (worldIn d)) .0) in
-    let n : length es ≡ length l = sym (length-map ((sitting es (worldIn d)) .0) output ∙ sitting-length es (worldIn d)) in
-    ap (λ (k : ℕ). take k (l ++ replicate (block - length es) noOutput)) n ∙ take-append-seam l (replicate (block - length es) noOutput)
+    let l : List Response = map response ((sitting es (worldIn d)) .0) in
+    let n : length es ≡ length l = sym (length-map ((sitting es (worldIn d)) .0) response ∙ sitting-length es (worldIn d)) in
+    ap (λ (k : ℕ). take k (l ++ replicate (block - length es) noResponse)) n ∙ take-append-seam l (replicate (block - length es) noResponse)
 
-all-sat : (bs : List Block) (d : Desk) → servedAll bs d ≡ (map output ((sitting (linesOf bs) (worldIn d)) .0), deskOf ((sitting (linesOf bs) (worldIn d)) .1))
+all-sat : (bs : List Block) (d : Desk) → servedAll bs d ≡ (map response ((sitting (linesOf bs) (worldIn d)) .0), deskOf ((sitting (linesOf bs) (worldIn d)) .1))
 unfolding servedAll linesOf sitting
 all-sat [] d = refl
 all-sat (b ∷ bs) d =
     let es : List Entry = linesIn b in
     let w : World = worldIn d in
     let v : World = (sitting es w) .1 in
-    rw (block-sat d b, sat-out d es, all-sat bs (deskOf v), sitting-join es (linesOf bs) w, map-join output ((sitting es w) .0) ((sitting (linesOf bs) v) .0))
+    rw (block-sat d b, sat-out d es, all-sat bs (deskOf v), sitting-join es (linesOf bs) w, map-join response ((sitting es w) .0) ((sitting (linesOf bs) v) .0))
 
 -- BLOCKS ONE AFTER ANOTHER: however lines fall into blocks, what is put out to them and the desk at the end are those of the runs among all of them
 pub block-by-block : (bs : List Block) (d : Desk)
-    → servedAll bs d ≡ (map output (saidTo (linesOf bs) (worldIn d)), deskOf (endOf (lastRun (linesOf bs) (worldIn d))))
+    → servedAll bs d ≡ (map response (saidTo (linesOf bs) (worldIn d)), deskOf (endOf (lastRun (linesOf bs) (worldIn d))))
 block-by-block bs d = all-sat bs d ∙ rw (sitting-runs (linesOf bs) (worldIn d))

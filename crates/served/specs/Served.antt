@@ -16,9 +16,9 @@ use Rattle.panel.specs.Panel.{startOf}
 use Rattle.commands.specs.Answers.{World}
 use Rattle.desk.specs.declared.Desk.{Desk}
 use Rattle.desk.specs.declared.Input.{Input}
-use Rattle.desk.specs.declared.Output.{Output}
+use Rattle.desk.specs.declared.Response.{Response}
 use Rattle.desk.specs.declared.Served.{Served}
-use Rattle.desk.specs.Desk.{block, noOutput, worldIn, deskOf, served}
+use Rattle.desk.specs.Desk.{block, noResponse, worldIn, deskOf, served}
 use Rattle.runs.specs.Run.{corrector, started}
 pub use Rattle.runs.specs.Never.{Sized}
 
@@ -105,14 +105,14 @@ saidTo es w = inPlace es (answersOf (firstRun es w) (parts es))
 abbrev pub input : Entry → Input
 input e = record { entry = e }
 
-abbrev pub output : Echo → Output
-output e = record { echo = e }
+abbrev pub response : Echo → Response
+response e = record { echo = e }
 
 -- what is to be handed back for a block
 unfoldable pub ran : Desk → List Entry → Served
 ran d es = record {
   desk = deskOf (endOf (lastRun es (worldIn d)));
-  outputs = map output (saidTo es (worldIn d)) ++ replicate (block - length es) noOutput;
+  responses = map response (saidTo es (worldIn d)) ++ replicate (block - length es) noResponse;
 }
 
 -- what `desk::serve` is given beside the desk: an array, and how many of its lines are to be served
@@ -129,11 +129,11 @@ linesOf [] = []
 linesOf (b ∷ bs) = linesIn b ++ linesOf bs
 
 -- blocks served, each on the desk that came back from the one before: what was put out to their lines, and the desk at the end
-unfoldable pub servedAll : List Block → Desk → List Output × Desk
+unfoldable pub servedAll : List Block → Desk → List Response × Desk
 servedAll [] d = ([], d)
 servedAll (b ∷ bs) d =
     let s = served d (b .inputs) (b .count) in
-    (take (length (linesIn b)) (s .outputs) ++ (servedAll bs (s .desk)) .0, (servedAll bs (s .desk)) .1)
+    (take (length (linesIn b)) (s .responses) ++ (servedAll bs (s .desk)) .0, (servedAll bs (s .desk)) .1)
 
 -- ---- a device that was just started, over stores of their exact lengths
 

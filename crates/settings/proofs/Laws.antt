@@ -4,7 +4,7 @@
 use mathlib.Core.Path.{_≡_, refl, sym, _∙_}
 use mathlib.Core.Bool.{Bool, true, false, not, true≢false}
 use mathlib.Core.List.{List}
-use Prim.Native.Nat.{ℕ, _≤_, _<_}
+use Prim.Native.Nat.{ℕ, zero, suc, _+_, _≤_, _<_}
 use native.Mathlib.Omega.{arith}
 use lib.Dec.{ltb}
 use lib.IntN.{ℤ, pos, negsuc}
@@ -12,7 +12,7 @@ use lib.ListN.{length}
 use lib.Signed.{ltZ}
 use borrow.Author.Tests.{ltb-false, not-true}
 use Rattle.ground.specs.Below.{allBelow}
-use Rattle.ground.specs.Ranges.{leastK, mostK, leastP, mostP, leastPb, mostPb, leastTb, mostTb, coldest, hottest}
+use Rattle.ground.specs.Ranges.{leastK, mostK, leastP, mostP, leastPb, mostPb, leastTb, mostTb, leastWeight, mostWeight, coldest, hottest}
 use Rattle.ground.proofs.Every.{all-each}
 use Rattle.ground.proofs.Flags.{and-left, and-right, of-T}
 use Rattle.ground.proofs.Table.{at}
@@ -20,7 +20,7 @@ use Rattle.settings.specs.declared.Value.{Value}
 use Rattle.settings.specs.declared.Value.the-variants.{Whole, Coefficient}
 use Rattle.settings.specs.declared.Setting.{Setting}
 use Rattle.settings.specs.declared.Row.{Row}
-use Rattle.settings.specs.Settings.{settingCount, rows, noRow, rowOf, isFinite, withinB, fitsRow, fitsB, factoryOf, factorySettings, valueAt, wholeOf, naturalOf, fitsAt, settingsFitB, inOrder, orderedB, cp, pb, tb, pMin, pMax, pF, tF, kF}
+use Rattle.settings.specs.Settings.{settingCount, rows, noRow, rowOf, isFinite, withinB, fitsRow, fitsB, factoryOf, factorySettings, valueAt, wholeOf, naturalOf, fitsAt, settingsFitB, inOrder, orderedB, cp, pb, tb, pMin, pMax, pF, tF, kF, mostChoice, firstChoice, firstWeight}
 
 -- ---- the table and the factory settings
 
@@ -121,3 +121,20 @@ module _ (a : List Setting) (e : settingsFitB a ≡ true) where
   pub k-f-in : NaturalIn leastK mostK (valueAt a kF)
   unfolding rowOf rows
   k-f-in = natural-at kF leastK mostK (omega arith) refl refl refl
+
+  -- the choices of the outputs, and their weights
+  pub choice-in : (k : ℕ) → k < 4 → NaturalIn 0 mostChoice (valueAt a (firstChoice + k))
+  unfolding rowOf rows
+  choice-in zero l = natural-at (firstChoice + 0) 0 mostChoice (omega arith) refl refl refl
+  choice-in (suc zero) l = natural-at (firstChoice + 1) 0 mostChoice (omega arith) refl refl refl
+  choice-in (suc (suc zero)) l = natural-at (firstChoice + 2) 0 mostChoice (omega arith) refl refl refl
+  choice-in (suc (suc (suc zero))) l = natural-at (firstChoice + 3) 0 mostChoice (omega arith) refl refl refl
+  choice-in (suc (suc (suc (suc k)))) l = absurd (omega arith)
+
+  pub weight-in : (k : ℕ) → k < 4 → NaturalIn leastWeight mostWeight (valueAt a (firstWeight + k))
+  unfolding rowOf rows
+  weight-in zero l = natural-at (firstWeight + 0) leastWeight mostWeight (omega arith) refl refl refl
+  weight-in (suc zero) l = natural-at (firstWeight + 1) leastWeight mostWeight (omega arith) refl refl refl
+  weight-in (suc (suc zero)) l = natural-at (firstWeight + 2) leastWeight mostWeight (omega arith) refl refl refl
+  weight-in (suc (suc (suc zero))) l = natural-at (firstWeight + 3) leastWeight mostWeight (omega arith) refl refl refl
+  weight-in (suc (suc (suc (suc k)))) l = absurd (omega arith)

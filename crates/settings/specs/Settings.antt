@@ -1,4 +1,4 @@
--- The settings of the corrector, document 01, "Quantities" and "Doors, sessions, locks". A setting is named by its place in the table, from 0:
+-- The settings of the corrector, document 01, "Quantities" and "Doors, sessions, locks", and document 02, Three. A setting is named by its place in the table, from 0:
 -- its number less one.
 -- Assumes nothing.
 use Prim.Native.Nat.{ℕ}
@@ -10,7 +10,7 @@ use lib.IntN.{ℤ, pos, negsuc, negℤ}
 use lib.Signed.{ltZ}
 use lib.Ieee.{Float, nan, inf, fin}
 use Rattle.ground.specs.Below.{allBelow}
-use Rattle.ground.specs.Ranges.{kScale, leastK, mostK, leastP, mostP, leastPb, mostPb, leastTb, mostTb, coldest, hottest}
+use Rattle.ground.specs.Ranges.{kScale, leastK, mostK, leastP, mostP, leastPb, mostPb, leastTb, mostTb, leastWeight, mostWeight, coldest, hottest}
 use Rattle.settings.specs.declared.Value.{Value}
 use Rattle.settings.specs.declared.Value.the-variants.{Whole, Coefficient}
 use Rattle.settings.specs.declared.Setting.{Setting}
@@ -18,7 +18,7 @@ use Rattle.settings.specs.declared.Row.{Row}
 
 -- how many settings there are
 abbrev pub settingCount : ℕ
-settingCount = 21
+settingCount = 29
 
 -- ---- the table
 
@@ -39,6 +39,13 @@ wholeRow low high first lock = record { coefficient = false; lowest = low; highe
 -- any finite float; the factory value; the lock
 abbrev pub floatRow : Float → ℕ → Row
 floatRow first lock = record { coefficient = true; lowest = pos 0; highest = pos 0; factory = Coefficient first; lock = lock }
+
+-- document 02, Three: choices 0..6, factory 0; weights, factory 100
+abbrev pub mostChoice : ℕ
+mostChoice = 6
+
+abbrev pub factoryWeight : ℕ
+factoryWeight = 100
 
 unfoldable pub rows : List Row
 rows =
@@ -63,6 +70,14 @@ rows =
     ∷ wholeRow (pos 0) (pos 1000) (pos 0) sup  -- 19 H2, 0.01 %
     ∷ wholeRow (pos 6000) (pos 12000) (pos 8000) sup  -- 20 Rhob, 0.0001 kg/m³
     ∷ wholeRow (pos 0) (pos 999999999) (pos 0) cust  -- 21 customer's number
+    ∷ wholeRow (pos 0) (pos mostChoice) (pos 0) sup  -- 22 choice of output 1
+    ∷ wholeRow (pos 0) (pos mostChoice) (pos 0) sup  -- 23 choice of output 2
+    ∷ wholeRow (pos 0) (pos mostChoice) (pos 0) sup  -- 24 choice of output 3
+    ∷ wholeRow (pos 0) (pos mostChoice) (pos 0) sup  -- 25 choice of output 4
+    ∷ wholeRow (pos leastWeight) (pos mostWeight) (pos factoryWeight) sup  -- 26 weight of output 1, litres a pulse
+    ∷ wholeRow (pos leastWeight) (pos mostWeight) (pos factoryWeight) sup  -- 27 weight of output 2, litres a pulse
+    ∷ wholeRow (pos leastWeight) (pos mostWeight) (pos factoryWeight) sup  -- 28 weight of output 3, litres a pulse
+    ∷ wholeRow (pos leastWeight) (pos mostWeight) (pos factoryWeight) sup  -- 29 weight of output 4, litres a pulse
     ∷ []
 
 -- past the table's end: no setting, and no lock opens it
@@ -121,6 +136,13 @@ tF = 14
 abbrev pub kF : ℕ
 kF = 15
 
+-- the choice of the first of the four outputs, and its weight; those of the others follow, output by output
+abbrev pub firstChoice : ℕ
+firstChoice = 21
+
+abbrev pub firstWeight : ℕ
+firstWeight = 25
+
 -- ---- which values fit: refusal 9 is given exactly when they do not
 
 unfoldable pub isFinite : Float → Bool
@@ -167,6 +189,10 @@ clipped (negsuc n) = 0
 
 abbrev pub naturalOf : Value → ℕ
 naturalOf v = clipped (wholeOf v)
+
+-- the value in force of the setting at a place, as a plain number
+abbrev pub naturalAt : List Setting → ℕ → ℕ
+naturalAt a setting = naturalOf (valueAt a setting)
 
 abbrev pub coefficientOf : Value → Float
 coefficientOf (Whole n) = fin false 0 (pos 0)

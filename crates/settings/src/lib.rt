@@ -15,6 +15,7 @@ ghost use Rattle.settings.specs.Settings.{
   factorySettings,
   wholeOf,
   naturalOf,
+  naturalAt,
   coefficientOf,
   opensB,
   rightB,
@@ -30,7 +31,7 @@ use ground::ranges::COLDEST;
 use ground::ranges::HOTTEST;
 
 // How many settings there are.
-pub const COUNT: usize = 21;
+pub const COUNT: usize = 29;
 
 // The locks of the table's last column: 1 calibration, 2 supplier's, 3 customer's.
 const CAL: u8 = 1;
@@ -57,6 +58,15 @@ const MOST_PB: i64 = ranges::MOST_PB as i64;
 const LEAST_TB: i64 = ranges::LEAST_TB as i64;
 
 const MOST_TB: i64 = ranges::MOST_TB as i64;
+
+const LEAST_WEIGHT: i64 = ranges::LEAST_WEIGHT as i64;
+
+const MOST_WEIGHT: i64 = ranges::MOST_WEIGHT as i64;
+
+// What an output may follow: 0 nothing, 1 to 6 Vm, VmD, VmT, Vb, VbD, VbT.
+const MOST_CHOICE: i64 = 6;
+
+const FACTORY_WEIGHT: i64 = 100;
 
 // The places of the settings that the corrector itself reads.
 pub const CP: usize = 0;
@@ -90,6 +100,11 @@ pub const P_F: usize = 13;
 pub const T_F: usize = 14;
 
 pub const K_F: usize = 15;
+
+// The choice of the first of the four outputs, and its weight. Those of the others follow, output by output.
+pub const CHOICES: usize = 21;
+
+pub const WEIGHTS: usize = 25;
 
 pub enum Value {
     Whole(i64),
@@ -160,6 +175,14 @@ pub fn row_of(k: usize) -> Row
         18 => whole_row(0, 1_000, 0, SUP), // 19 H2, 0.01 %
         19 => whole_row(6_000, 12_000, 8_000, SUP), // 20 Rhob, 0.0001 kg/m³
         20 => whole_row(0, 999_999_999, 0, CUST), // 21 customer's number
+        21 => whole_row(0, MOST_CHOICE, 0, SUP), // 22 choice of output 1
+        22 => whole_row(0, MOST_CHOICE, 0, SUP), // 23 choice of output 2
+        23 => whole_row(0, MOST_CHOICE, 0, SUP), // 24 choice of output 3
+        24 => whole_row(0, MOST_CHOICE, 0, SUP), // 25 choice of output 4
+        25 => whole_row(LEAST_WEIGHT, MOST_WEIGHT, FACTORY_WEIGHT, SUP), // 26 weight of output 1, litres a pulse
+        26 => whole_row(LEAST_WEIGHT, MOST_WEIGHT, FACTORY_WEIGHT, SUP), // 27 weight of output 2, litres a pulse
+        27 => whole_row(LEAST_WEIGHT, MOST_WEIGHT, FACTORY_WEIGHT, SUP), // 28 weight of output 3, litres a pulse
+        28 => whole_row(LEAST_WEIGHT, MOST_WEIGHT, FACTORY_WEIGHT, SUP), // 29 weight of output 4, litres a pulse
         _ => whole_row(0, 0, 0, 0), // no setting
     }
 }
@@ -269,6 +292,14 @@ pub fn natural_of(v: Value) -> u64
 {
     let n = whole_of(v);
     if n < 0 { 0 } else { n as u64 }
+}
+
+pub fn natural_at(a: [Setting; COUNT], k: usize) -> u64
+    ensures { λ r. ⌜ r ≡ naturalAt a k ⌝ }
+{
+    let x = setting_at(a, k);
+    let v = x.value;
+    natural_of(v)
 }
 
 pub fn coefficient_of(v: Value) -> f64

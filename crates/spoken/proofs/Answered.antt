@@ -12,11 +12,11 @@ use Rattle.text.specs.Entries.{entryOf}
 use Rattle.text.specs.Echoes.{echoText}
 use Rattle.desk.specs.declared.Desk.{Desk}
 use Rattle.desk.specs.declared.Input.{Input}
-use Rattle.desk.specs.declared.Output.{Output}
+use Rattle.desk.specs.declared.Response.{Response}
 use Rattle.desk.specs.declared.Served.{Served}
-use Rattle.desk.specs.Desk.{block, noInput, noOutput, worldIn, served}
+use Rattle.desk.specs.Desk.{block, noInput, noResponse, worldIn, served}
 use Rattle.lines.specs.Lines.{wholeLines, inputOf, inBlock, inputsOf, inputsIn, echoLines, room, servedLines, saidLines, answersOf, answerText}
-use Rattle.served.specs.Served.{saidTo, output, ran}
+use Rattle.served.specs.Served.{saidTo, response, ran}
 use Rattle.served.specs.Served as runs
 use Rattle.served.proofs.Served.{served-is-run}
 use Rattle.served.proofs.Sitting.{said-length}
@@ -29,7 +29,7 @@ inputs-are [] = refl
 inputs-are (line ∷ lines) = ap (λ (l : List Input). inputOf line ∷ l) (inputs-are lines)
 
 -- the lines of what is put out are the text of what is said
-text-is : (es : List Echo) → echoLines (map output es) ≡ textOf es
+text-is : (es : List Echo) → echoLines (map response es) ≡ textOf es
 unfolding echoLines textOf
 text-is [] = refl
 text-is (e ∷ es) = ap (λ (l : List ℕ). echoText e ++ l) (text-is es)
@@ -48,13 +48,13 @@ lines-run d lines h =
     ∙ served-is-run d (entriesOf lines) rest (omega (arith, many-entries lines))
 
 -- and of what comes back, the places of the lines
-lines-said : (d : Desk) (lines : List (List ℕ)) → echoLines (take (length lines) (ran d (entriesOf lines) .outputs)) ≡ spoken lines d .text
+lines-said : (d : Desk) (lines : List (List ℕ)) → echoLines (take (length lines) (ran d (entriesOf lines) .responses)) ≡ spoken lines d .text
 unfolding ran spoken
 lines-said d lines =
     let es : List Echo = saidTo (entriesOf lines) (worldIn d) in
-    let rest : List Output = replicate (block - length (entriesOf lines)) noOutput in
-    let n : length lines ≡ length (map output es) = sym (length-map es output ∙ said-length (entriesOf lines) (worldIn d) ∙ many-entries lines) in
-    ap echoLines (ap (λ (k : ℕ). take k (map output es ++ rest)) n ∙ take-append-seam (map output es) rest) ∙ text-is es
+    let rest : List Response = replicate (block - length (entriesOf lines)) noResponse in
+    let n : length lines ≡ length (map response es) = sym (length-map es response ∙ said-length (entriesOf lines) (worldIn d) ∙ many-entries lines) in
+    ap echoLines (ap (λ (k : ℕ). take k (map response es ++ rest)) n ∙ take-append-seam (map response es) rest) ∙ text-is es
 
 -- ONE CALL OF `lines::answer`, WITH ROOM: the text is that of what the runs among the first block of lines say, the desk is theirs, and `at` is the
 -- number of their bytes
@@ -64,6 +64,6 @@ unfolding answerText answersOf answersTo saidLines servedLines inputsIn inputsOf
 lines-answered d input out h =
     let lines : List (List ℕ) = take block (wholeLines input) in
     let e = lines-run d lines (omega (arith, length-take block (wholeLines input))) in
-    let said = ap (λ (s : Served). echoLines (take (length lines) (s .outputs))) e ∙ lines-said d lines in
+    let said = ap (λ (s : Served). echoLines (take (length lines) (s .responses))) e ∙ lines-said d lines in
     let t = le-ltb (length out) room h in
     (rw t said, rw (t, said, e))

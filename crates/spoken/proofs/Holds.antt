@@ -2,13 +2,14 @@
 -- starts, empty and unknown lines in it. `back` is the device with its stores at the end of the input. `last` is the run under way: it began with the last start, and
 -- its steps are the commands since.
 -- Assumes nothing.
-use Prim.Native.Nat.{ℕ, suc, _%_}
+use Prim.Native.Nat.{ℕ, suc, _%_, _<_}
 use mathlib.Core.Path.{_≡_, refl, ap}
 use mathlib.Core.List.{List, [], _∷_, map, reverse}
 use lib.Dec.{leb}
 use lib.ListN.{take, replicate, length-replicate}
 use Rattle.order.specs.Order.{run, serial, steps, answers}
 use Rattle.calendar.specs.Calendar.{endOfTime}
+use Rattle.outputs.specs.Four.{outputCount}
 use Rattle.ring.specs.Ring.{archiveLines, logLines, auditLines}
 use Rattle.commands.specs.declared.Command.{Command}
 use Rattle.commands.specs.declared.Entry.{Entry}
@@ -19,9 +20,11 @@ use Rattle.desk.specs.Desk as desk
 use Rattle.lines.specs.Lines.{wholeLines}
 use Rattle.runs.specs.Run.{corrector, closed}
 use Rattle.runs.specs.Sums.{Counter, sumIn, shows, rollover}
+use Rattle.runs.specs.Outputs.{Balances}
 use Rattle.runs.specs.History.{history, startedAt}
 use Rattle.runs.specs.Lines.{archiveShelf, logShelf, auditShelf, wroteIn, holds}
 use Rattle.runs.proofs.Sums.{sums}
+use Rattle.runs.proofs.Outputs.{balance}
 use Rattle.runs.proofs.Times.{start-time}
 use Rattle.runs.proofs.Lines.{archive-holds, log-holds, audit-holds}
 use Rattle.runs.proofs.Sessions.{sessions-in-order}
@@ -69,6 +72,10 @@ module _ (rs : List Read) (enough : EnoughAfter rs) (time supcode custcode : ℕ
   -- THE SUMS: each counter shows, under its rollover, the sum of what the accepted cycles since the last start put on it
   pub spoken-sums : (c : Counter) → shows c back ≡ sumIn c (history (last .steps) (last .from)) % rollover c
   spoken-sums c = spoken-holds (λ w xs v. shows c v ≡ sumIn c (history xs w) % rollover c) (λ t a b archive log audit s xs. sums c xs t a b archive log audit)
+
+  -- THE PULSES OF EACH OUTPUT: those due since the last start are those emitted, waiting and lost, modulo 2^32
+  pub spoken-pulses : (k : ℕ) → k < outputCount → Balances k back (history (last .steps) (last .from))
+  spoken-pulses k l = spoken-holds (λ w xs v. Balances k v (history xs w)) (λ t a b archive log audit s xs. balance t a b archive log audit k l xs)
 
   -- THE ORDER OF THE SESSIONS: the steps since the last start, rearranged session by session, have the answers that they had and lead to this device, its
   -- unfinished sessions apart

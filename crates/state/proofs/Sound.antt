@@ -12,6 +12,8 @@ use Rattle.ground.proofs.Flags.{and-left, and-right}
 use Rattle.units.specs.Units.{litresShown, baseShown, plusLitres, plusBase}
 use Rattle.settings.specs.Settings.{settingsFitB, orderedB}
 use Rattle.settings.proofs.Laws.{factory-fits, factory-ordered}
+use Rattle.outputs.specs.Four.{ruleAt, outputsB}
+use Rattle.outputs.proofs.All.{fresh-whole as outputs-fresh}
 use Rattle.calendar.specs.Calendar.{endOfTime, monthOf}
 use Rattle.ring.specs.Ring.{archiveLines, logLines, auditLines, logStep, auditStep, ringAfter, bookAfter, ringB, bookB}
 use Rattle.ring.proofs.Whole.{ring-passes, book-passes, log-common, audit-common, archive-whole, log-whole, audit-whole}
@@ -59,6 +61,7 @@ pub record SoundCore (c : Core) : Type 0 where
   pub fit : settingsFitB (c .settings) ≡ true
   pub ordered : orderedB (c .settings) ≡ true
   pub latched : latchedB (c .measured .alarms) (c .latches) ≡ true
+  pub outputs : outputsB (ruleAt (c .settings)) (c .outputs) ≡ true
   pub archive-held : ringB archiveLines (c .stores .archive) ≡ true
   pub log-held : bookB logLines logStep (c .stores .log) ≡ true
   pub audit-held : bookB auditLines auditStep (c .stores .audit) ≡ true
@@ -97,19 +100,22 @@ core-sound c e =
     let f : Bool = settingsFitB (c .settings) in
     let o : Bool = orderedB (c .settings) in
     let l : Bool = latchedB (c .measured .alarms) (c .latches) in
+    let u : Bool = outputsB (ruleAt (c .settings)) (c .outputs) in
     let x : Bool = ringB archiveLines (c .stores .archive) in
     let y : Bool = bookB logLines logStep (c .stores .log) in
     let z : Bool = bookB auditLines auditStep (c .stores .audit) in
-    let e4 : (d && f && o && l) ≡ true = and-left (d && f && o && l) (x && y && z) e in
+    let e5 : (d && f && o && l && u) ≡ true = and-left (d && f && o && l && u) (x && y && z) e in
+    let e4 : (d && f && o && l) ≡ true = and-left (d && f && o && l) u e5 in
     let e3 : (d && f && o) ≡ true = and-left (d && f && o) l e4 in
     let e2 : (d && f) ≡ true = and-left (d && f) o e3 in
-    let s3 : (x && y && z) ≡ true = and-right (d && f && o && l) (x && y && z) e in
+    let s3 : (x && y && z) ≡ true = and-right (d && f && o && l && u) (x && y && z) e in
     let s2 : (x && y) ≡ true = and-left (x && y) z s3 in
     record {
       measured = and-left d f e2;
       fit = and-right d f e2;
       ordered = and-right (d && f) o e3;
       latched = and-right (d && f && o) l e4;
+      outputs = and-right (d && f && o && l) u e5;
       archive-held = and-left x y s2;
       log-held = and-right x y s2;
       audit-held = and-right (x && y) z s3;
@@ -118,7 +124,7 @@ core-sound c e =
 pub sound-core : (c : Core) → SoundCore c → coreB c ≡ true
 unfolding coreB storesB
 sound-core c p =
-    rw (p .measured, p .fit, p .ordered, p .latched, p .archive-held, p .log-held, p .audit-held)
+    rw (p .measured, p .fit, p .ordered, p .latched, p .outputs, p .archive-held, p .log-held, p .audit-held)
 
 -- ---- the state
 
@@ -153,6 +159,7 @@ fresh-core time locks h = record {
   fit = factory-fits;
   ordered = factory-ordered;
   latched = refl;
+  outputs = outputs-fresh;
   archive-held = ring-passes archiveLines (ringAfter archiveLines 0) (omega arith) (record { lines = 0; gives = refl });
   log-held = book-passes log-common (bookAfter logLines 0) (record { lines = 0; gives = refl });
   audit-held = book-passes audit-common (bookAfter auditLines 0) (record { lines = 0; gives = refl });

@@ -1,4 +1,4 @@
--- The state of a corrector: as it starts, and when it is whole. Document 01, "Number on the fault card", its last paragraph; document 02, One.
+-- The state of a corrector: as it starts, and when it is whole. Document 01, "Number on the fault card", its last paragraph; document 02, One and Three.
 -- Assumes nothing.
 use Prim.Native.Nat.{ℕ}
 use mathlib.Core.Bool.{Bool, false, not, _&&_, _||_}
@@ -10,6 +10,7 @@ use Rattle.ground.specs.Below.{allBelow}
 use Rattle.units.specs.Units.{litresRollover, baseRollover, plusLitres, plusBase}
 use Rattle.settings.specs.Settings.{settingCount, fitsB, settingsFitB, orderedB, factorySettings}
 use Rattle.settings.specs.declared.Value.the-variants.{Whole}
+use Rattle.outputs.specs.Four.{ruleAt, outputsB, freshOutputs}
 use Rattle.calendar.specs.Calendar.{endOfTime, monthOf}
 use Rattle.ring.specs.Ring.{archiveLines, logLines, auditLines, logStep, auditStep, ringAfter, bookAfter, FromFresh, ringB, bookB}
 use Rattle.state.specs.declared.Counters.{Counters}
@@ -47,13 +48,14 @@ nothingCounted = record {
 unfoldable pub shutLocks : ℕ → ℕ → Locks
 shutLocks supcode custcode = record { cal = false; sup = false; cust = false; supcode = supcode; custcode = custcode }
 
--- counters 0, settings factory, no alarm or latch, no line held; the start time is the last accepted time until a cycle is accepted
+-- counters 0, settings factory, nothing in the outputs, no alarm or latch, no line held; the start time is the last accepted time until a cycle is accepted
 unfoldable pub freshCore : ℕ → Locks → Core
 freshCore time locks = record {
   measured = record { time = time; month = monthOf time; counters = nothingCounted; alarms = noAlarm };
   latches = noAlarm;
   locks = locks;
   settings = factorySettings;
+  outputs = freshOutputs;
   stores = record { archive = ringAfter archiveLines 0; log = bookAfter logLines 0; audit = bookAfter auditLines 0 };
 }
 
@@ -117,6 +119,8 @@ coreB c =
     -- the pairs 7/8 and 9/10 are in order
     && orderedB (c .settings)
     && latchedB (c .measured .alarms) (c .latches)
+    -- each output by its choice and weight
+    && outputsB (ruleAt (c .settings)) (c .outputs)
     && storesB (c .stores)
 
 unfoldable pub wholeB : State → Bool

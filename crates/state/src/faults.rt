@@ -36,3 +36,6 @@ pub const NOT_HELD: u64 = 13;
 
 // A cycle's Vb amount at or over the counter's rollover.
 pub const TOO_LARGE: u64 = 14;
+
+// A tick that names more than 600.
+pub const LONG_TICK: u64 = 15;

@@ -70,6 +70,7 @@ pub struct Core {
     pub latches: Alarms,
     pub locks: Locks,
     pub settings: [settings::Setting; settings::COUNT],
+    pub outputs: [outputs::Output; outputs::COUNT],
     pub stores: Stores,
 }
 
@@ -177,6 +178,7 @@ fn fresh_core(time: u64, locks: Locks) -> Core
     let counters = no_counts();
     let none = no_alarms();
     let factory = settings::factory_settings();
+    let outputs = outputs::fresh_outputs();
     let empty = ring::Ring { held: 0, next: 0 };
     let book = ring::Book {
         ring: empty,
@@ -198,6 +200,7 @@ fn fresh_core(time: u64, locks: Locks) -> Core
         latches: none,
         locks: locks,
         settings: factory,
+        outputs: outputs,
         stores: stores,
     }
 }
@@ -289,7 +292,7 @@ fn touched_ok(live: bool, k: usize, c: Cell) -> bool
     ground::both(e, d)
 }
 
-// 42 cells are tested each time, and in most nothing is staged or read: for these only the last mark is looked at.
+// 58 cells are tested each time, and in most nothing is staged or read: for these only the last mark is looked at.
 fn cell_ok(live: bool, k: usize, c: Cell) -> bool
     ensures { λ r. ⌜ r ≡ cellB live k c ⌝ }
 {
@@ -337,15 +340,18 @@ fn core_ok(c: Core) -> bool
     ensures { λ r. ⌜ r ≡ coreB c ⌝ }
 {
     let a = c.settings;
+    let o = c.outputs;
     let measured = measured_ok(c.measured);
     let fit = settings::settings_fit(a);
     let ordered = settings::pairs_ordered(a);
     let latched = latched_ok(c.measured.alarms, c.latches);
+    let outputs = outputs::outputs_ok(o, a);
     let stores = stores_ok(c.stores);
     let d = ground::both(measured, fit);
     let e = ground::both(d, ordered);
     let f = ground::both(e, latched);
-    ground::both(f, stores)
+    let g = ground::both(f, outputs);
+    ground::both(g, stores)
 }
 
 pub fn whole(s: State) -> bool

@@ -25,12 +25,12 @@ use Rattle.commands.specs.declared.Brought.{Brought}
 use Rattle.commands.specs.declared.LockTurn.the-variants.{Open, Shut}
 use Rattle.commands.specs.declared.Act.the-variants.{Begin, Read, Write, Abandon}
 use Rattle.commands.specs.declared.Command.{Command}
-use Rattle.commands.specs.declared.Command.the-variants.{Cycle, Turn, Clear, Ask, Call, Commit}
-use Rattle.cycle.specs.Cycle.{monthLines, alarmsFor, amountsFor, anyAlarm, measuredBy, changes, cycleRefusal, cycledCore, cycled, cycleOf}
+use Rattle.commands.specs.declared.Command.the-variants.{Cycle, Turn, Clear, Tick, Ask, Call, Commit}
+use Rattle.cycle.specs.Cycle.{monthLines, alarmsFor, amountsFor, anyAlarm, measuredBy, gainedFor, changes, cycleRefusal, cycledCore, cycled, cycleOf}
 use Rattle.cycle.proofs.Join.{accepted}
-use Rattle.cycle.proofs.Laws.{counters-stay, totals-stay, latches-hold}
-use Rattle.panel.specs.Panel.{openRefusal, openOf, shutRefusal, shutOf, clearRefusal, clearBy}
-use Rattle.panel.proofs.Laws.{open-whole, shut-whole, clear-whole}
+use Rattle.cycle.proofs.Laws.{counters-stay, totals-stay, gained-whole, latches-hold}
+use Rattle.panel.specs.Panel.{openRefusal, openOf, shutRefusal, shutOf, clearRefusal, clearBy, tickRefusal, tickBy}
+use Rattle.panel.proofs.Laws.{open-whole, shut-whole, clear-whole, tick-whole}
 use Rattle.doors.specs.Doors.{beginRefusal, beginBy, readRefusal, readBy, writeRefusal, writeBy, abandonRefusal, abandonBy, commitRefusal, commitOf, refusedCommit}
 use Rattle.doors.proofs.Stays.{begin-whole, abandon-whole, read-whole, write-whole, commit-whole}
 use Rattle.commands.specs.Answers.{World}
@@ -46,14 +46,15 @@ measured-stays m time found amounts h e =
     rw (h, counters-stay (m .counters) (anyAlarm found) amounts (s .counted), totals-stay (m .counters) (anyAlarm found) amounts (s .totalled), eq-eqb (monthOf time) (monthOf time) refl)
 
 pub cycled-sound : (c : Core) (r : Brought) → ltb (r .time) endOfTime ≡ true → SoundCore c → SoundCore (cycledCore c r)
-unfolding cycledCore
+unfolding cycledCore gainedFor
 cycled-sound c r h s = record {
   measured = measured-stays (c .measured) (r .time) (alarmsFor (c .settings) r) (amountsFor (c .settings) r) h (s .measured);
   fit = s .fit;
   ordered = s .ordered;
   latched = latches-hold (c .latches) (alarmsFor (c .settings) r);
+  outputs = gained-whole (c .settings) (anyAlarm (alarmsFor (c .settings) r)) (amountsFor (c .settings) r) (c .outputs) (s .outputs);
   archive-held = ring-stays archiveLines (length (monthLines (c .measured .counters) (c .measured .month) (monthOf (r .time)))) (c .stores .archive) (omega arith) (s .archive-held);
-  log-held = book-stays log-common (length (changes (c .measured .alarms) (alarmsFor (c .settings) r))) (c .stores .log) (s .log-held);
+  log-held = book-stays log-common (length (changes (c .measured .alarms) (alarmsFor (c .settings) r) (gainedFor (c .settings) r (c .outputs) .over))) (c .stores .log) (s .log-held);
   audit-held = s .audit-held;
 }
 
@@ -76,6 +77,7 @@ step-whole (Cycle r) w e =
 step-whole (Turn (Open lock code)) w e = open-whole (w .state) lock code (w .log) e
 step-whole (Turn (Shut lock)) w e = shut-whole (w .state) lock (w .log) e
 step-whole Clear w e = clear-whole (w .state) e
+step-whole (Tick n) w e = tick-whole (w .state) n e
 step-whole (Ask question) w e = e
 step-whole (Call door Begin) w e = begin-whole (w .state) door e
 step-whole (Call door Abandon) w e = abandon-whole (w .state) door e
@@ -85,11 +87,12 @@ step-whole (Call door (Write setting v)) w e = write-whole (w .state) door setti
 
 -- a state that is not whole is refused by 1, and stays as it is
 step-stays : (c : Command) (w : World) → wholeB (w .state) ≡ false → (step c w) .0 .state ≡ w .state
-unfolding cycleOf cycleRefusal openOf openRefusal shutOf shutRefusal clearBy clearRefusal beginBy beginRefusal readBy readRefusal writeBy writeRefusal abandonBy abandonRefusal commitOf commitRefusal refusedCommit
+unfolding cycleOf cycleRefusal openOf openRefusal shutOf shutRefusal clearBy clearRefusal tickBy tickRefusal beginBy beginRefusal readBy readRefusal writeBy writeRefusal abandonBy abandonRefusal commitOf commitRefusal refusedCommit
 step-stays (Cycle r) w e = rw e
 step-stays (Turn (Open lock code)) w e = rw e
 step-stays (Turn (Shut lock)) w e = rw e
 step-stays Clear w e = rw e
+step-stays (Tick n) w e = rw e
 step-stays (Ask question) w e = refl
 step-stays (Call door Begin) w e = rw e
 step-stays (Call door (Read setting)) w e = rw e

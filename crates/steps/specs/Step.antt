@@ -14,7 +14,7 @@ use Rattle.commands.specs.declared.Question.the-variants as question
 use Rattle.commands.specs.declared.Act.{Act}
 use Rattle.commands.specs.declared.Act.the-variants.{Begin, Read, Write, Abandon}
 use Rattle.commands.specs.declared.Command.{Command}
-use Rattle.commands.specs.declared.Command.the-variants.{Cycle, Turn, Clear, Ask, Call, Commit}
+use Rattle.commands.specs.declared.Command.the-variants.{Cycle, Turn, Clear, Tick, Ask, Call, Commit}
 use Rattle.commands.specs.declared.Reply.{Reply}
 use Rattle.commands.specs.declared.Answer.{Answer}
 use Rattle.commands.specs.Answers.{World, Outcome}
@@ -44,6 +44,7 @@ lockTurned (Shut lock) w = panel.shutOf (w .state) lock (w .log)
 
 abbrev pub replyTo : Question → World → Reply
 replyTo question.Report w = panel.reportOf (w .state)
+replyTo question.Outputs w = panel.outputsOf (w .state)
 replyTo (question.Archive i) w = panel.archiveLineOf (w .state) i (w .archive)
 replyTo (question.Log i) w = panel.logLineOf (w .state) i (w .log)
 replyTo (question.Audit i) w = doors.auditLineOf (w .state) i (w .audit)
@@ -64,6 +65,7 @@ abbrev pub step : Command → World → World × Reply
 step (Cycle r) w = cycles w (cycleOf (w .state) r (w .archive) (w .log))
 step (Turn t) w = logs w (lockTurned t w)
 step Clear w = answers w (panel.clearOf (w .state))
+step (Tick n) w = answers w (panel.tickOf (w .state) n)
 step (Ask q) w = (w, replyTo q w)
 step (Call door act) w = callOf door act w
 step (Commit door) w = audits w (doors.commitOf (w .state) door (w .audit))

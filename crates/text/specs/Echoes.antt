@@ -18,6 +18,9 @@ use Rattle.state.specs.declared.Alarms.{Alarms}
 use Rattle.state.specs.declared.Moment.{Moment}
 use Rattle.settings.specs.declared.Value.{Value}
 use Rattle.settings.specs.declared.Value.the-variants.{Whole, Coefficient}
+use Rattle.outputs.specs.declared.Shown.{Shown}
+use Rattle.outputs.specs.declared.Emitted.{Emitted}
+use Rattle.outputs.specs.declared.AllShown.{AllShown}
 use Rattle.commands.specs.declared.Given.{Given}
 use Rattle.commands.specs.declared.Given.the-variants as given
 use Rattle.commands.specs.declared.Reply.{Reply}
@@ -124,6 +127,18 @@ momentWords m =
     ++ (lampWords (m .alarms) (m .latches)
     ++ flagWords (m .cal) (m .sup) (m .cust))))
 
+-- E1 E2 E3 E4
+unfoldable pub emittedWords : Emitted → List (List ℕ)
+emittedWords e = numberWords (e .one) (e .two) (e .three) (e .four)
+
+-- A W L
+unfoldable pub outputWords : Shown → List (List ℕ)
+outputWords x = decimal (x .account) ∷ decimal (x .waiting) ∷ decimal (x .lost) ∷ []
+
+-- A1 W1 L1 A2 W2 L2 A3 W3 L3 A4 W4 L4
+unfoldable pub outputsWords : AllShown → List (List ℕ)
+outputsWords all = outputWords (all .one) ++ (outputWords (all .two) ++ (outputWords (all .three) ++ outputWords (all .four)))
+
 -- ---- lines
 
 -- what is given beside the number
@@ -131,6 +146,8 @@ unfoldable pub givenWords : Given → List (List ℕ)
 givenWords given.Nothing = []
 givenWords (given.Value v) = valueWords v
 givenWords (given.Report m) = momentWords m
+givenWords (given.Emitted e) = emittedWords e
+givenWords (given.Outputs all) = outputsWords all
 givenWords (given.Archive l) = archiveWords l
 givenWords (given.Log l) = logWords l
 givenWords (given.Audit l) = auditWords l
@@ -150,7 +167,7 @@ echoText (echo.Said r) = saidText r
 
 -- room enough for any line; where there is less, nothing is put
 abbrev pub enough : ℕ
-enough = 256
+enough = 288
 
 unfoldable pub textFor : List ℕ → ℕ → Echo → List ℕ
 textFor out at e = cond (ltb (length out) (at + enough)) [] (echoText e)

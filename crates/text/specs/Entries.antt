@@ -11,7 +11,7 @@ use Rattle.commands.specs.declared.Brought.{Brought}
 use Rattle.commands.specs.declared.LockTurn.the-variants.{Open, Shut}
 use Rattle.commands.specs.declared.Question.the-variants as question
 use Rattle.commands.specs.declared.Act.the-variants.{Begin, Read, Write, Abandon}
-use Rattle.commands.specs.declared.Command.the-variants.{Cycle, Turn, Clear, Ask, Call, Commit}
+use Rattle.commands.specs.declared.Command.the-variants.{Cycle, Turn, Clear, Tick, Ask, Call, Commit}
 use Rattle.commands.specs.declared.Entry.{Entry}
 use Rattle.commands.specs.declared.Entry.the-variants as entry
 use Rattle.text.specs.declared.numbers.Number.{Number}
@@ -40,14 +40,15 @@ isQuiet line = eqb (length line) 0 || eqb (getD line 0 0) (byte "#")
 
 -- ---- a word alone, and a word with one, two or three numbers: a row for each
 
--- report; clear
+-- report; clear; outputs
 unfoldable pub alone : List ℕ → Entry
 alone w =
     cond (sameB w (bytes "report")) (entry.Put (Ask question.Report))
     (cond (sameB w (bytes "clear")) (entry.Put Clear)
-    entry.Unknown)
+    (cond (sameB w (bytes "outputs")) (entry.Put (Ask question.Outputs))
+    entry.Unknown))
 
--- begin, commit, abandon DOOR; shut LOCK; archive, log, audit I
+-- begin, commit, abandon DOOR; shut LOCK; archive, log, audit I; tick N
 unfoldable pub withOne : List ℕ → ℕ → Entry
 withOne w n =
     cond (sameB w (bytes "begin")) (entry.Put (Call n Begin))
@@ -57,7 +58,8 @@ withOne w n =
     (cond (sameB w (bytes "archive")) (entry.Put (Ask (question.Archive n)))
     (cond (sameB w (bytes "log")) (entry.Put (Ask (question.Log n)))
     (cond (sameB w (bytes "audit")) (entry.Put (Ask (question.Audit n)))
-    entry.Unknown))))))
+    (cond (sameB w (bytes "tick")) (entry.Put (Tick n))
+    entry.Unknown)))))))
 
 unfoldable pub oneOr : List ℕ → Number → Entry
 oneOr w number.NotOne = entry.Unknown

@@ -9,10 +9,10 @@ ghost use mathlib.Core.List.{[], _∷_};
 ghost use Prim.Native.Nat.{_+_, _≤_, _<_};
 ghost use lib.ListN.{length};
 ghost use lib.IntN.{natAbs};
-ghost use Rattle.text.specs.Echoes.{Put, glyph, digits, places, decimal, spaced, flag, signed, bitsOf, valueWords, joined, flagWords, numberWords, archiveWords, logWords, auditWords, counterWords, lampWords, momentWords, givenWords, saidText, unknownText, textFor};
+ghost use Rattle.text.specs.Echoes.{Put, glyph, digits, places, decimal, spaced, flag, signed, bitsOf, valueWords, joined, flagWords, numberWords, archiveWords, logWords, auditWords, counterWords, lampWords, momentWords, emittedWords, outputWords, outputsWords, givenWords, saidText, unknownText, textFor};
 
-// Room for any line. The longest is a report: seven numbers of at most 20 digits and nine flags, each after a space.
-pub const ROOM: usize = 256;
+// Room for any line. The longest tells of the outputs: a number, and twelve numbers after it, each of at most 20 digits after a space.
+pub const ROOM: usize = 288;
 
 fn put_byte(out: &mut [u8], at: usize, b: u8) -> usize
     requires { ⌜ at < length (now out) ⌝ }
@@ -233,16 +233,55 @@ fn put_moment(out: &mut [u8], at: usize, m: state::Moment) -> usize
     put_three(out, sixth, m.cal, m.sup, m.cust)
 }
 
+fn put_emitted(out: &mut [u8], at: usize, e: outputs::Emitted) -> usize
+    requires { ⌜ at + 84 ≤ length (now out) ⌝ }
+    ensures { λ r. ⌜ Put 84 (now (out .entry)) (now (out .exit)) at r (joined (emittedWords e)) ⌝ }
+{
+    put_four(
+        out,
+        at,
+        e.one as u64,
+        e.two as u64,
+        e.three as u64,
+        e.four as u64,
+    )
+}
+
+fn put_output(out: &mut [u8], at: usize, x: outputs::Shown) -> usize
+    requires { ⌜ at + 63 ≤ length (now out) ⌝ }
+    ensures { λ r. ⌜ Put 63 (now (out .entry)) (now (out .exit)) at r (joined (outputWords x)) ⌝ }
+{
+    let second = put_number(out, at, x.account);
+    let third = put_number(out, second, x.waiting as u64);
+    put_number(out, third, x.lost as u64)
+}
+
+fn put_outputs(out: &mut [u8], at: usize, all: outputs::AllShown) -> usize
+    requires { ⌜ at + 252 ≤ length (now out) ⌝ }
+    ensures { λ r. ⌜ Put 252 (now (out .entry)) (now (out .exit)) at r (joined (outputsWords all)) ⌝ }
+{
+    let one = all.one;
+    let two = all.two;
+    let three = all.three;
+    let four = all.four;
+    let second = put_output(out, at, one);
+    let third = put_output(out, second, two);
+    let fourth = put_output(out, third, three);
+    put_output(out, fourth, four)
+}
+
 // ---- lines
 
 fn put_given(out: &mut [u8], at: usize, g: Given) -> usize
-    requires { ⌜ at + 165 ≤ length (now out) ⌝ }
-    ensures { λ r. ⌜ Put 165 (now (out .entry)) (now (out .exit)) at r (joined (givenWords g)) ⌝ }
+    requires { ⌜ at + 252 ≤ length (now out) ⌝ }
+    ensures { λ r. ⌜ Put 252 (now (out .entry)) (now (out .exit)) at r (joined (givenWords g)) ⌝ }
 {
     match g {
         Given::Nothing => at,
         Given::Value(v) => put_value(out, at, v),
         Given::Report(m) => put_moment(out, at, m),
+        Given::Emitted(e) => put_emitted(out, at, e),
+        Given::Outputs(all) => put_outputs(out, at, all),
         Given::Archive(l) => put_archive(out, at, l),
         Given::Log(l) => put_log(out, at, l),
         Given::Audit(l) => put_audit(out, at, l),
@@ -250,8 +289,8 @@ fn put_given(out: &mut [u8], at: usize, g: Given) -> usize
 }
 
 fn said_line(out: &mut [u8], at: usize, reply: Reply) -> usize
-    requires { ⌜ at + 256 ≤ length (now out) ⌝ }
-    ensures { λ r. ⌜ Put 256 (now (out .entry)) (now (out .exit)) at r (saidText reply) ⌝ }
+    requires { ⌜ at + 288 ≤ length (now out) ⌝ }
+    ensures { λ r. ⌜ Put 288 (now (out .entry)) (now (out .exit)) at r (saidText reply) ⌝ }
 {
     let n = reply.number;
     let given = reply.given;
@@ -262,8 +301,8 @@ fn said_line(out: &mut [u8], at: usize, reply: Reply) -> usize
 }
 
 fn unknown_line(out: &mut [u8], at: usize) -> usize
-    requires { ⌜ at + 256 ≤ length (now out) ⌝ }
-    ensures { λ r. ⌜ Put 256 (now (out .entry)) (now (out .exit)) at r unknownText ⌝ }
+    requires { ⌜ at + 288 ≤ length (now out) ⌝ }
+    ensures { λ r. ⌜ Put 288 (now (out .entry)) (now (out .exit)) at r unknownText ⌝ }
 {
     let next = put_byte(out, at, b'?');
     put_byte(out, next, LINE_FEED)
@@ -271,7 +310,7 @@ fn unknown_line(out: &mut [u8], at: usize) -> usize
 
 // Puts nothing if there is less than ROOM left.
 pub fn echo_line(out: &mut [u8], at: usize, echo: Echo) -> usize
-    ensures { λ r. ⌜ Put 256 (now (out .entry)) (now (out .exit)) at r (textFor (now (out .entry)) at echo) ⌝ }
+    ensures { λ r. ⌜ Put 288 (now (out .entry)) (now (out .exit)) at r (textFor (now (out .entry)) at echo) ⌝ }
 {
     if out.len() < at {
         return at;

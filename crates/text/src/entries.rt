@@ -43,6 +43,9 @@ fn alone(w: &[u8]) -> Entry
     if same(w, b"clear") {
         return Entry::Put(Command::Clear);
     }
+    if same(w, b"outputs") {
+        return Entry::Put(Command::Ask(Question::Outputs));
+    }
     Entry::Unknown
 }
 
@@ -69,6 +72,9 @@ fn with_one(w: &[u8], n: u64) -> Entry
     }
     if same(w, b"audit") {
         return Entry::Put(Command::Ask(Question::Audit(n)));
+    }
+    if same(w, b"tick") {
+        return Entry::Put(Command::Tick(n));
     }
     Entry::Unknown
 }

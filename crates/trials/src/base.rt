@@ -1,6 +1,9 @@
 // The whole state from which the trials start. Every command can be accepted in it.
+use outputs::Account;
+use outputs::Output;
 use ring::Book;
 use ring::Ring;
+use settings::Setting;
 use settings::Value;
 use state::Alarms;
 use state::Cell;
@@ -54,9 +57,47 @@ pub fn book(held: u64, next: u64, number: u16) -> Book {
     }
 }
 
+pub fn output(account: u64, waiting: u16, lost: u32) -> Output {
+    Output {
+        account: Account(account),
+        waiting,
+        lost,
+    }
+}
+
+pub fn with_setting(
+    a: [Setting; settings::COUNT],
+    place: usize,
+    v: Value,
+) -> [Setting; settings::COUNT] {
+    settings::setting_put(a, place, Setting { value: v })
+}
+
+// Output 1 follows VmT and output 2 VbT. Output 3 is off. Output 4 follows VmD.
+fn settings_in_force() -> [Setting; settings::COUNT] {
+    let a = with_setting(
+        settings::factory_settings(),
+        settings::CHOICES,
+        Value::Whole(3),
+    );
+    let b = with_setting(a, settings::CHOICES + 1, Value::Whole(6));
+    let c = with_setting(b, settings::CHOICES + 3, Value::Whole(2));
+    let d = with_setting(c, settings::WEIGHTS + 1, Value::Whole(250));
+    with_setting(d, settings::WEIGHTS + 3, Value::Whole(1_000_000))
+}
+
+// The accounts of outputs 1 and 2 are one below their weights. The buffer of output 2 is full, and its lost counter at its highest. Output 3 still has what waited when it
+// was switched off. No pulse waits at output 4.
+fn outputs_in_use() -> [Output; outputs::COUNT] {
+    let one = output(99, 7, 3);
+    let two = output(24_999_999, 65_535, 4_294_967_295);
+    let three = output(0, 2, 1);
+    let four = output(5, 0, 0);
+    [one, two, three, four]
+}
+
 // Both totals have rolled over. The pressure alarm is present; the temperature alarm is over but still latched. The archive and the logbook are full.
 fn core() -> Core {
-    let factory = settings::factory_settings();
     let blank = state::fresh_state(TIME, SUPPLIERS_CODE, CUSTOMERS_CODE);
     let fresh = blank.core;
     let mut measured = fresh.measured;
@@ -79,7 +120,8 @@ fn core() -> Core {
         measured: measured,
         latches: alarms(true, true, false),
         locks: locks(true, false, false),
-        settings: factory,
+        settings: settings_in_force(),
+        outputs: outputs_in_use(),
         stores: stores,
     }
 }

@@ -1,8 +1,8 @@
 // A state with one part changed.
 use crate::base;
+use outputs::Output;
 use ring::Book;
 use ring::Ring;
-use settings::Setting;
 use settings::Value;
 use state::Alarms;
 use state::Cell;
@@ -75,9 +75,47 @@ pub fn audit(s: State, b: Book) -> State {
 pub fn setting(s: State, place: usize, v: Value) -> State {
     let mut core = s.core;
     let before = core.settings;
-    let after = settings::setting_put(before, place, Setting { value: v });
+    let after = base::with_setting(before, place, v);
     core.settings = after;
     state::with_core(s, core)
+}
+
+fn with_account(a: [Output; outputs::COUNT], k: usize, account: u64) -> [Output; outputs::COUNT] {
+    if k < outputs::COUNT {
+        let x = a[k];
+        let mut b = a;
+        b[k] = base::output(account, x.waiting, x.lost);
+        b
+    } else {
+        a
+    }
+}
+
+pub fn outputs(s: State, all: [Output; outputs::COUNT]) -> State {
+    let mut core = s.core;
+    core.outputs = all;
+    state::with_core(s, core)
+}
+
+// Another choice, weight and account of one output. It is named by its place, from 0; what waits there and what was lost stay.
+pub fn output(s: State, k: usize, choice: i64, weight: i64, account: u64) -> State {
+    if k < outputs::COUNT {
+        let chosen = setting(s, settings::CHOICES + k, Value::Whole(choice));
+        let weighed = setting(chosen, settings::WEIGHTS + k, Value::Whole(weight));
+        let core = s.core;
+        let before = core.outputs;
+        outputs(weighed, with_account(before, k, account))
+    } else {
+        s
+    }
+}
+
+// With every output off, no account depends on a choice or a weight.
+pub fn outputs_off(s: State) -> State {
+    let one = output(s, 0, 0, 100, 0);
+    let two = output(one, 1, 0, 100, 0);
+    let three = output(two, 2, 0, 100, 0);
+    output(three, 3, 0, 100, 0)
 }
 
 fn keypad(s: State, x: Session) -> State {

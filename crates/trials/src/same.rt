@@ -1,5 +1,6 @@
 // Whether two values are the same in every field. Floats are compared bit by bit; all NaNs count as the same.
 use ground::both;
+use outputs::Output;
 use print::bits;
 use settings::Value;
 use state::Alarms;
@@ -84,6 +85,24 @@ fn sessions(a: Session, b: Session) -> bool {
     both(a.live == b.live, cells_all(x, y))
 }
 
+fn outputs(x: Output, y: Output) -> bool {
+    let account = x.account.0 == y.account.0;
+    let waiting = x.waiting == y.waiting;
+    let lost = x.lost == y.lost;
+    both(account, both(waiting, lost))
+}
+
+fn outputs_all(a: [Output; outputs::COUNT], b: [Output; outputs::COUNT]) -> bool {
+    let mut good = true;
+    for k in 0..outputs::COUNT {
+        let x = a[k];
+        let y = b[k];
+        let fine = outputs(x, y);
+        good = both(fine, good);
+    }
+    good
+}
+
 fn counters(a: Counters, b: Counters) -> bool {
     let vm = a.vm.0 == b.vm.0;
     let vmd = a.vmd.0 == b.vmd.0;
@@ -140,8 +159,11 @@ fn cores(a: Core, b: Core) -> bool {
     let x = a.settings;
     let y = b.settings;
     let set = settings_all(x, y);
+    let v = a.outputs;
+    let w = b.outputs;
+    let pulses = outputs_all(v, w);
     let kept = stores(a.stores, b.stores);
-    let second = both(both(latched, turned), both(set, kept));
+    let second = both(both(latched, turned), both(set, both(pulses, kept)));
     both(first, second)
 }
 

@@ -1,9 +1,10 @@
-// Asks the rules of one measuring cycle a few hundred questions and prints each with its answer. The file stdout beside it is what
+// Asks the rules some hundreds of questions and prints each with its answer. The file stdout beside it is what
 // tools/vectors.py works out by other means.
 mod amounts;
 mod factors;
 mod measures;
 mod months;
+mod pulses;
 mod stores;
 mod table;
 mod taken;
@@ -18,4 +19,5 @@ fn main() {
     taken::run();
     table::run();
     stores::run();
+    pulses::run();
 }

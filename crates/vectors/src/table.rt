@@ -35,7 +35,7 @@ fn asked_float(place: usize, x: f64) {
 }
 
 // Every end of every range, and one past each.
-fn wholes(k: usize) {
+fn small_wholes(k: usize) {
     asked(k, -9_223_372_036_854_775_808);
     asked(k, -10_001);
     asked(k, -10_000);
@@ -45,6 +45,8 @@ fn wholes(k: usize) {
     asked(k, 2);
     asked(k, 4);
     asked(k, 5);
+    asked(k, 6);
+    asked(k, 7);
     asked(k, 1_000);
     asked(k, 1_001);
     asked(k, 3_000);
@@ -55,6 +57,9 @@ fn wholes(k: usize) {
     asked(k, 6_000);
     asked(k, 9_999);
     asked(k, 10_000);
+}
+
+fn large_wholes(k: usize) {
     asked(k, 12_000);
     asked(k, 12_001);
     asked(k, 14_000);
@@ -69,6 +74,8 @@ fn wholes(k: usize) {
     asked(k, 90_000);
     asked(k, 110_000);
     asked(k, 110_001);
+    asked(k, 1_000_000);
+    asked(k, 1_000_001);
     asked(k, 10_000_000);
     asked(k, 10_000_001);
     asked(k, 999_999_999);
@@ -95,7 +102,8 @@ fn fits(setting: u64, place: usize) {
     text(b"fits");
     number(setting);
     gives();
-    wholes(place);
+    small_wholes(place);
+    large_wholes(place);
     coefficients(place);
     end();
 }
@@ -158,9 +166,17 @@ fn every_setting() {
     setting(19, 18);
     setting(20, 19);
     setting(21, 20);
+    setting(22, 21);
+    setting(23, 22);
+    setting(24, 23);
+    setting(25, 24);
+    setting(26, 25);
+    setting(27, 26);
+    setting(28, 27);
+    setting(29, 28);
     // There is no such setting.
-    fits(22, 21);
-    rights(22, 21);
+    fits(30, 29);
+    rights(30, 29);
 }
 
 fn with(a: [Setting; settings::COUNT], place: usize, n: i64) -> [Setting; settings::COUNT] {

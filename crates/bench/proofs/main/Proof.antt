@@ -5,12 +5,13 @@ use mathlib.Core.Path.{_≡_, sym, _∙_}
 use Prim.Native.Nat.{_≤_}
 use native.Mathlib.Omega.{arith}
 use lib.ListN.{length}
+use Rattle.lines.specs.Lines.{room}
 use Rattle.bench.proofs.main.Statement.{statement}
 use Rattle.bench.proofs.main.Tie as tie
 
 abbrev Inv-loop : tie.InvT-loop
 Inv-loop input₀ out₀ desk₀ from₀ have₀ more₀ on₀ turns₀ input out desk from have more on turns =
-    (length input ≡ 65536) × (length out ≡ 65536) × (from ≤ have) × (have ≤ 65536)
+    (length input ≡ 65536) × (length out ≡ room) × (from ≤ have) × (have ≤ 65536)
 
 abbrev μ-loop : tie.MeasureT-loop
 μ-loop input₀ out₀ desk₀ from₀ have₀ more₀ on₀ turns₀ input out desk from have more on turns = turns
@@ -18,14 +19,14 @@ abbrev μ-loop : tie.MeasureT-loop
 large-buffer-requires : tie.Need-large-buffer-requires Inv-loop μ-loop
 large-buffer-requires c κs = search needs
 
-large-buffer-requires-2 : tie.Need-large-buffer-requires-2 Inv-loop μ-loop
-large-buffer-requires-2 c κs = search needs
+answer-buffer-requires : tie.Need-answer-buffer-requires Inv-loop μ-loop
+answer-buffer-requires c κs = search needs
 
 fresh-requires : tie.Need-fresh-requires Inv-loop μ-loop
 fresh-requires c κs = search needs
 
 loop-holds : tie.Need-loop-holds Inv-loop μ-loop
-loop-holds c = (sym (c .before .before .before .large-buffer .ensures), sym (c .before .before .large-buffer2 .ensures), omega arith, omega arith)
+loop-holds c = (sym (c .before .before .before .large-buffer .ensures), sym (c .before .before .answer-buffer .ensures), omega arith, omega arith)
 
 returns : tie.Need-returns Inv-loop μ-loop
 returns c = tt
@@ -64,7 +65,7 @@ main-spec =
     Inv-loop
     μ-loop
     large-buffer-requires
-    large-buffer-requires-2
+    answer-buffer-requires
     fresh-requires
     loop-holds
     returns

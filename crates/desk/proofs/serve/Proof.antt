@@ -50,20 +50,20 @@ use Rattle.books.proofs.Walk.{rest-of, vals, Fine, has, gives, answers, calls-w
 use Rattle.books.proofs.Local.{lends-array, array-comes-back, array-back, shares-array, shared-comes-back}
 use Rattle.books.proofs.Types.{a-u64, a-usize, a-bool, a-unit, a-ArchiveLine, a-LogLine, a-AuditLine}
 use Rattle.desk.specs.declared.Desk.{Desk}
-use Rattle.desk.proofs.Types.{a-Desk, a-Input, a-Output, a-Entry, a-Served}
+use Rattle.desk.proofs.Types.{a-Desk, a-Input, a-Response, a-Entry, a-Served}
 use Rattle.desk.specs.declared.Input.{Input}
-use Rattle.desk.specs.Desk.{block, noOutput, noInput}
+use Rattle.desk.specs.Desk.{block, noResponse, noInput}
 use Rattle.state.specs.declared.State.{State}
 use Rattle.cycle.proofs.Types.{a-State, a-Answer}
 use Rattle.state.specs.State.{wholeB}
 use Rattle.books.specs.declared.ArchiveLine.{ArchiveLine}
 use Rattle.books.specs.declared.LogLine.{LogLine}
 use Rattle.books.specs.declared.AuditLine.{AuditLine}
-use Rattle.desk.specs.declared.Output.{Output}
+use Rattle.desk.specs.declared.Response.{Response}
 use Rattle.commands.specs.declared.Entry.{Entry}
 use Rattle.commands.specs.declared.Command.{Command}
 use Rattle.device.proofs.Types.{a-Command, a-Reply}
-use Rattle.desk.specs.Plan.{commandIn, answeredIn, outputBy, soundBy, puttingTogether, after, soundAfter, outputsUpTo, deskAfter, seenOn, turnOn, outputOn}
+use Rattle.desk.specs.Plan.{commandIn, answeredIn, responseBy, soundBy, puttingTogether, after, soundAfter, responsesUpTo, deskAfter, seenOn, turnOn, responseOn}
 use Rattle.commands.specs.declared.Reply.{Reply}
 use Rattle.device.specs.Plan.{seenOf, answerIn, turnOf}
 use Rattle.commands.specs.declared.Answer.{Answer}
@@ -98,11 +98,11 @@ use Rattle.desk.proofs.audit_of.Symbol as audit-of-def
 use Rattle.desk.proofs.audit_of.Symbol.{name as #desk·audit-of}
 use Rattle.desk.proofs.audit_of.Met as audit-of-thm
 use Rattle.books.proofs.AuditLine as AuditLine′
-use Rattle.desk.proofs.no_outputs as no-outputs
-use Rattle.desk.proofs.no_outputs.Symbol as no-outputs-def
-use Rattle.desk.proofs.no_outputs.Symbol.{name as #desk·no-outputs}
-use Rattle.desk.proofs.no_outputs.Met as no-outputs-thm
-use Rattle.desk.proofs.Output as Output′
+use Rattle.desk.proofs.no_responses as no-responses
+use Rattle.desk.proofs.no_responses.Symbol as no-responses-def
+use Rattle.desk.proofs.no_responses.Symbol.{name as #desk·no-responses}
+use Rattle.desk.proofs.no_responses.Met as no-responses-thm
+use Rattle.desk.proofs.Response as Response′
 use Rattle.desk.proofs.fetch_input as fetch-input
 use Rattle.desk.proofs.fetch_input.Symbol as fetch-input-def
 use Rattle.desk.proofs.fetch_input.Symbol.{name as #desk·fetch-input}
@@ -127,14 +127,14 @@ use Rattle.desk.proofs.answered_in as answered-in
 use Rattle.desk.proofs.answered_in.Symbol as answered-in-def
 use Rattle.desk.proofs.answered_in.Symbol.{name as #desk·answered-in}
 use Rattle.desk.proofs.answered_in.Met as answered-in-thm
-use Rattle.desk.proofs.output_by as output-by
-use Rattle.desk.proofs.output_by.Symbol as output-by-def
-use Rattle.desk.proofs.output_by.Symbol.{name as #desk·output-by}
-use Rattle.desk.proofs.output_by.Met as output-by-thm
-use Rattle.desk.proofs.put_output as put-output
-use Rattle.desk.proofs.put_output.Symbol as put-output-def
-use Rattle.desk.proofs.put_output.Symbol.{name as #desk·put-output}
-use Rattle.desk.proofs.put_output.Met as put-output-thm
+use Rattle.desk.proofs.response_by as response-by
+use Rattle.desk.proofs.response_by.Symbol as response-by-def
+use Rattle.desk.proofs.response_by.Symbol.{name as #desk·response-by}
+use Rattle.desk.proofs.response_by.Met as response-by-thm
+use Rattle.desk.proofs.put_response as put-response
+use Rattle.desk.proofs.put_response.Symbol as put-response-def
+use Rattle.desk.proofs.put_response.Symbol.{name as #desk·put-response}
+use Rattle.desk.proofs.put_response.Met as put-response-thm
 use Rattle.desk.proofs.state_in as state-in
 use Rattle.desk.proofs.state_in.Symbol as state-in-def
 use Rattle.desk.proofs.state_in.Symbol.{name as #desk·state-in}
@@ -175,8 +175,8 @@ Says-log-of 𝓤 H A at-mem run = tripleOf 𝓤 H A log-of.signature (log-of.spe
 abbrev Says-audit-of : {M′ : Type 1} (𝓤 : URA M′) (H : Heap 𝓤) (A : Atoms 𝓤) (at-mem : Memory → SProp 𝓤) (run : Routine → Fun 𝓤) → Contract 𝓤
 Says-audit-of 𝓤 H A at-mem run = tripleOf 𝓤 H A audit-of.signature (audit-of.spec 𝓤 H A at-mem run)
 
-abbrev Says-no-outputs : {M′ : Type 1} (𝓤 : URA M′) (H : Heap 𝓤) (A : Atoms 𝓤) (at-mem : Memory → SProp 𝓤) (run : Routine → Fun 𝓤) → Contract 𝓤
-Says-no-outputs 𝓤 H A at-mem run = tripleOf 𝓤 H A no-outputs.signature (no-outputs.spec 𝓤 H A at-mem run)
+abbrev Says-no-responses : {M′ : Type 1} (𝓤 : URA M′) (H : Heap 𝓤) (A : Atoms 𝓤) (at-mem : Memory → SProp 𝓤) (run : Routine → Fun 𝓤) → Contract 𝓤
+Says-no-responses 𝓤 H A at-mem run = tripleOf 𝓤 H A no-responses.signature (no-responses.spec 𝓤 H A at-mem run)
 
 abbrev Says-fetch-input : {M′ : Type 1} (𝓤 : URA M′) (H : Heap 𝓤) (A : Atoms 𝓤) (at-mem : Memory → SProp 𝓤) (run : Routine → Fun 𝓤) → Contract 𝓤
 Says-fetch-input 𝓤 H A at-mem run = tripleOf 𝓤 H A fetch-input.signature (fetch-input.spec 𝓤 H A at-mem run)
@@ -196,11 +196,11 @@ Says-answer 𝓤 H A at-mem run = tripleOf 𝓤 H A answer.signature (answer.spe
 abbrev Says-answered-in : {M′ : Type 1} (𝓤 : URA M′) (H : Heap 𝓤) (A : Atoms 𝓤) (at-mem : Memory → SProp 𝓤) (run : Routine → Fun 𝓤) → Contract 𝓤
 Says-answered-in 𝓤 H A at-mem run = tripleOf 𝓤 H A answered-in.signature (answered-in.spec 𝓤 H A at-mem run)
 
-abbrev Says-output-by : {M′ : Type 1} (𝓤 : URA M′) (H : Heap 𝓤) (A : Atoms 𝓤) (at-mem : Memory → SProp 𝓤) (run : Routine → Fun 𝓤) → Contract 𝓤
-Says-output-by 𝓤 H A at-mem run = tripleOf 𝓤 H A output-by.signature (output-by.spec 𝓤 H A at-mem run)
+abbrev Says-response-by : {M′ : Type 1} (𝓤 : URA M′) (H : Heap 𝓤) (A : Atoms 𝓤) (at-mem : Memory → SProp 𝓤) (run : Routine → Fun 𝓤) → Contract 𝓤
+Says-response-by 𝓤 H A at-mem run = tripleOf 𝓤 H A response-by.signature (response-by.spec 𝓤 H A at-mem run)
 
-abbrev Says-put-output : {M′ : Type 1} (𝓤 : URA M′) (H : Heap 𝓤) (A : Atoms 𝓤) (at-mem : Memory → SProp 𝓤) (run : Routine → Fun 𝓤) → Contract 𝓤
-Says-put-output 𝓤 H A at-mem run = tripleOf 𝓤 H A put-output.signature (put-output.spec 𝓤 H A at-mem run)
+abbrev Says-put-response : {M′ : Type 1} (𝓤 : URA M′) (H : Heap 𝓤) (A : Atoms 𝓤) (at-mem : Memory → SProp 𝓤) (run : Routine → Fun 𝓤) → Contract 𝓤
+Says-put-response 𝓤 H A at-mem run = tripleOf 𝓤 H A put-response.signature (put-response.spec 𝓤 H A at-mem run)
 
 abbrev Says-state-in : {M′ : Type 1} (𝓤 : URA M′) (H : Heap 𝓤) (A : Atoms 𝓤) (at-mem : Memory → SProp 𝓤) (run : Routine → Fun 𝓤) → Contract 𝓤
 Says-state-in 𝓤 H A at-mem run = tripleOf 𝓤 H A state-in.signature (state-in.spec 𝓤 H A at-mem run)
@@ -246,8 +246,8 @@ module _ {M′ : Type 1} (𝓤 : URA M′) (H : Heap 𝓤) (A : Atoms 𝓤) (W :
   abbrev audit-at : ℕ → (List AuditLine)
   audit-at k = after d inputs k .audit
 
-  abbrev outputs-at : ℕ → (List Output)
-  outputs-at k = outputsUpTo d inputs k
+  abbrev responses-at : ℕ → (List Response)
+  responses-at k = responsesUpTo d inputs k
 
   -- ---- the calls: what each is handed, that it is had, and what it gives
   abbrev to-in-block : Says-in-block 𝓤 H A at-mem run .Ghost
@@ -304,14 +304,14 @@ module _ {M′ : Type 1} (𝓤 : URA M′) (H : Heap 𝓤) (A : Atoms 𝓤) (W :
   gives-audit-of : (w : Val) → ent 𝓤 (Says-audit-of 𝓤 H A at-mem run .post to-audit-of w) (H .⇛ (guard 𝓤 ((w ≡ (known-array a-AuditLine 200) .val (d .audit)) × Fine (known-array a-AuditLine 200) (d .audit)) (emp 𝓤)))
   gives-audit-of = answers 𝓤 H A W (known-array a-AuditLine 200) (Unit {0} × Unit {0}) (λ ws. lasts audit-of.ended tt (d, tt) ws) (λ r. r ≡ d .audit) (d .audit) (λ r e. e) (emp 𝓤)
 
-  abbrev to-no-outputs : Says-no-outputs 𝓤 H A at-mem run .Ghost
-  to-no-outputs = ((tt, tt, tt, tt, tt), tt)
+  abbrev to-no-responses : Says-no-responses 𝓤 H A at-mem run .Ghost
+  to-no-responses = ((tt, tt, tt, tt, tt), tt)
 
-  asks-no-outputs : ent 𝓤 (emp 𝓤) (Says-no-outputs 𝓤 H A at-mem run .pre to-no-outputs)
-  asks-no-outputs = qed W [] ∵ nothing ! $ nothing ! $ nothing ! $ join ! $ done !
+  asks-no-responses : ent 𝓤 (emp 𝓤) (Says-no-responses 𝓤 H A at-mem run .pre to-no-responses)
+  asks-no-responses = qed W [] ∵ nothing ! $ nothing ! $ nothing ! $ join ! $ done !
 
-  gives-no-outputs : (w : Val) → ent 𝓤 (Says-no-outputs 𝓤 H A at-mem run .post to-no-outputs w) (H .⇛ (guard 𝓤 ((w ≡ (known-array a-Output 256) .val (replicate block noOutput)) × Fine (known-array a-Output 256) (replicate block noOutput)) (emp 𝓤)))
-  gives-no-outputs = answers 𝓤 H A W (known-array a-Output 256) (Unit {0}) (λ ws. lasts no-outputs.ended tt tt ws) (λ r. r ≡ replicate block noOutput) (replicate block noOutput) (λ r e. e) (emp 𝓤)
+  gives-no-responses : (w : Val) → ent 𝓤 (Says-no-responses 𝓤 H A at-mem run .post to-no-responses w) (H .⇛ (guard 𝓤 ((w ≡ (known-array a-Response 256) .val (replicate block noResponse)) × Fine (known-array a-Response 256) (replicate block noResponse)) (emp 𝓤)))
+  gives-no-responses = answers 𝓤 H A W (known-array a-Response 256) (Unit {0}) (λ ws. lasts no-responses.ended tt tt ws) (λ r. r ≡ replicate block noResponse) (replicate block noResponse) (λ r e. e) (emp 𝓤)
 
   abbrev is-fetch-input : ℕ → Input
   is-fetch-input k = (getD inputs k noInput)
@@ -394,29 +394,29 @@ module _ {M′ : Type 1} (𝓤 : URA M′) (H : Heap 𝓤) (A : Atoms 𝓤) (W :
   gives-answered-in : (k : ℕ) → (w : Val) → ent 𝓤 (Says-answered-in 𝓤 H A at-mem run .post (to-answered-in k) w) (H .⇛ (guard 𝓤 ((w ≡ a-Answer .val (is-answered-in k)) × Fine a-Answer (is-answered-in k)) (emp 𝓤)))
   gives-answered-in k = answers 𝓤 H A W a-Answer (Unit {0} × (Unit {0} × Unit {0})) (λ ws. lasts answered-in.ended tt ((is-entry-in k), ((is-answer k), tt)) ws) (λ r. r ≡ answeredIn (is-entry-in k) (is-answer k)) (is-answered-in k) (λ r e. e) (emp 𝓤)
 
-  abbrev is-output-by : ℕ → Output
-  is-output-by k = (outputBy (is-entry-in k) (is-answered-in k))
+  abbrev is-response-by : ℕ → Response
+  is-response-by k = (responseBy (is-entry-in k) (is-answered-in k))
 
-  abbrev to-output-by : ℕ → Says-output-by 𝓤 H A at-mem run .Ghost
-  to-output-by k = ((tt, tt, tt, ((is-entry-in k), ((is-answered-in k), tt)), (a-Entry .val (is-entry-in k) ∷ [], (a-Answer .val (is-answered-in k) ∷ [], tt))), tt)
+  abbrev to-response-by : ℕ → Says-response-by 𝓤 H A at-mem run .Ghost
+  to-response-by k = ((tt, tt, tt, ((is-entry-in k), ((is-answered-in k), tt)), (a-Entry .val (is-entry-in k) ∷ [], (a-Answer .val (is-answered-in k) ∷ [], tt))), tt)
 
-  asks-output-by : (k : ℕ) → Fine a-Entry (is-entry-in k) → Fine a-Answer (is-answered-in k) → ent 𝓤 (emp 𝓤) (Says-output-by 𝓤 H A at-mem run .pre (to-output-by k))
-  asks-output-by k f0 f1 = qed W [] ∵ nothing ! $ nothing ! $ has ! a-Answer (is-answered-in k) f1 $ fjoin ! $ has ! a-Entry (is-entry-in k) f0 $ fjoin ! $ nothing ! $ join ! $ done !
+  asks-response-by : (k : ℕ) → Fine a-Entry (is-entry-in k) → Fine a-Answer (is-answered-in k) → ent 𝓤 (emp 𝓤) (Says-response-by 𝓤 H A at-mem run .pre (to-response-by k))
+  asks-response-by k f0 f1 = qed W [] ∵ nothing ! $ nothing ! $ has ! a-Answer (is-answered-in k) f1 $ fjoin ! $ has ! a-Entry (is-entry-in k) f0 $ fjoin ! $ nothing ! $ join ! $ done !
 
-  gives-output-by : (k : ℕ) → (w : Val) → ent 𝓤 (Says-output-by 𝓤 H A at-mem run .post (to-output-by k) w) (H .⇛ (guard 𝓤 ((w ≡ a-Output .val (is-output-by k)) × Fine a-Output (is-output-by k)) (emp 𝓤)))
-  gives-output-by k = answers 𝓤 H A W a-Output (Unit {0} × (Unit {0} × Unit {0})) (λ ws. lasts output-by.ended tt ((is-entry-in k), ((is-answered-in k), tt)) ws) (λ r. r ≡ outputBy (is-entry-in k) (is-answered-in k)) (is-output-by k) (λ r e. e) (emp 𝓤)
+  gives-response-by : (k : ℕ) → (w : Val) → ent 𝓤 (Says-response-by 𝓤 H A at-mem run .post (to-response-by k) w) (H .⇛ (guard 𝓤 ((w ≡ a-Response .val (is-response-by k)) × Fine a-Response (is-response-by k)) (emp 𝓤)))
+  gives-response-by k = answers 𝓤 H A W a-Response (Unit {0} × (Unit {0} × Unit {0})) (λ ws. lasts response-by.ended tt ((is-entry-in k), ((is-answered-in k), tt)) ws) (λ r. r ≡ responseBy (is-entry-in k) (is-answered-in k)) (is-response-by k) (λ r e. e) (emp 𝓤)
 
-  abbrev is-put-output-array11 : ℕ → List Output
-  is-put-output-array11 k = (set (outputs-at k) k (is-output-by k))
+  abbrev is-put-response-array11 : ℕ → List Response
+  is-put-response-array11 k = (set (responses-at k) k (is-response-by k))
 
-  abbrev to-put-output : ℕ → ℕ → ℕ → GName → Says-put-output 𝓤 H A at-mem run .Ghost
-  to-put-output k b11 α11 γ11 = ((((α11 ∷ []), tt), (fullShare, tt), tt, ((record { ptr = (b11, 0); name = γ11; now = (outputs-at k) }), (k, ((is-output-by k), tt))), ((sliceVal (b11, 0) (length (outputs-at k))) ∷ [], (a-usize .val k ∷ [], (a-Output .val (is-output-by k) ∷ [], tt)))), tt)
+  abbrev to-put-response : ℕ → ℕ → ℕ → GName → Says-put-response 𝓤 H A at-mem run .Ghost
+  to-put-response k b11 α11 γ11 = ((((α11 ∷ []), tt), (fullShare, tt), tt, ((record { ptr = (b11, 0); name = γ11; now = (responses-at k) }), (k, ((is-response-by k), tt))), ((sliceVal (b11, 0) (length (responses-at k))) ∷ [], (a-usize .val k ∷ [], (a-Response .val (is-response-by k) ∷ [], tt)))), tt)
 
-  asks-put-output : (k : ℕ) (b11 α11 : ℕ) (γ11 : GName) → Fine a-usize k → Fine a-Output (is-output-by k) → ent 𝓤 (sep 𝓤 (sep 𝓤 (A .lft (α11 ∷ []) fullShare) (sem 𝓤 H A ftrue)) (sem 𝓤 H A (MutSlice (named 0) (α11 ∷ []) Output′.the-row .own (record { ptr = (b11, 0); name = γ11; now = (outputs-at k) }) ((sliceVal (b11, 0) (length (outputs-at k))) ∷ [])))) (Says-put-output 𝓤 H A at-mem run .pre (to-put-output k b11 α11 γ11))
-  asks-put-output k b11 α11 γ11 f1 f2 = qed W ((‵ (flft (α11 ∷ []) fullShare) ⊛ ‵ ftrue) ∷ ‵ (MutSlice (named 0) (α11 ∷ []) Output′.the-row .own (record { ptr = (b11, 0); name = γ11; now = (outputs-at k) }) ((sliceVal (b11, 0) (length (outputs-at k))) ∷ [])) ∷ []) ∵ nothing ! $ nothing ! $ has ! a-Output (is-output-by k) f2 $ fjoin ! $ has ! a-usize k f1 $ fjoin ! $ move ! (3 ∷ 0 ∷ []) $ fjoin ! $ move ! (2 ∷ 0 ∷ []) $ join ! $ done !
+  asks-put-response : (k : ℕ) (b11 α11 : ℕ) (γ11 : GName) → Fine a-usize k → Fine a-Response (is-response-by k) → ent 𝓤 (sep 𝓤 (sep 𝓤 (A .lft (α11 ∷ []) fullShare) (sem 𝓤 H A ftrue)) (sem 𝓤 H A (MutSlice (named 0) (α11 ∷ []) Response′.the-row .own (record { ptr = (b11, 0); name = γ11; now = (responses-at k) }) ((sliceVal (b11, 0) (length (responses-at k))) ∷ [])))) (Says-put-response 𝓤 H A at-mem run .pre (to-put-response k b11 α11 γ11))
+  asks-put-response k b11 α11 γ11 f1 f2 = qed W ((‵ (flft (α11 ∷ []) fullShare) ⊛ ‵ ftrue) ∷ ‵ (MutSlice (named 0) (α11 ∷ []) Response′.the-row .own (record { ptr = (b11, 0); name = γ11; now = (responses-at k) }) ((sliceVal (b11, 0) (length (responses-at k))) ∷ [])) ∷ []) ∵ nothing ! $ nothing ! $ has ! a-Response (is-response-by k) f2 $ fjoin ! $ has ! a-usize k f1 $ fjoin ! $ move ! (3 ∷ 0 ∷ []) $ fjoin ! $ move ! (2 ∷ 0 ∷ []) $ join ! $ done !
 
-  gives-put-output : (k : ℕ) (b11 α11 : ℕ) (γ11 : GName) → (w : Val) → ent 𝓤 (Says-put-output 𝓤 H A at-mem run .post (to-put-output k b11 α11 γ11) w) (H .⇛ (guard 𝓤 ((w ≡ a-unit .val tt) × Fine a-unit tt) (sep 𝓤 (sep 𝓤 (A .lft (α11 ∷ []) fullShare) (sem 𝓤 H A ftrue)) (sem 𝓤 H A (fsep (fsep (finally Output′.the-row γ11 (is-put-output-array11 k)) (feq ℕ (length (is-put-output-array11 k)) (length (outputs-at k)))) (fsep ftrue (fsep ftrue ftrue)))))))
-  gives-put-output k b11 α11 γ11 = gives 𝓤 H A W a-unit (List Output × (Unit {0} × (Unit {0} × Unit {0}))) (λ ws. lasts put-output.ended ((α11 ∷ []), tt) ((record { ptr = (b11, 0); name = γ11; now = (outputs-at k) }), (k, ((is-output-by k), tt))) ws) (λ r ws. (ws .0) ≡ set (outputs-at k) k (is-output-by k)) tt ((is-put-output-array11 k), (tt, (tt, tt))) (λ r ws e. (refl, ap (λ (l : List Output). (l, (tt, (tt, tt)))) (e))) (sep 𝓤 (A .lft (α11 ∷ []) fullShare) (sem 𝓤 H A ftrue))
+  gives-put-response : (k : ℕ) (b11 α11 : ℕ) (γ11 : GName) → (w : Val) → ent 𝓤 (Says-put-response 𝓤 H A at-mem run .post (to-put-response k b11 α11 γ11) w) (H .⇛ (guard 𝓤 ((w ≡ a-unit .val tt) × Fine a-unit tt) (sep 𝓤 (sep 𝓤 (A .lft (α11 ∷ []) fullShare) (sem 𝓤 H A ftrue)) (sem 𝓤 H A (fsep (fsep (finally Response′.the-row γ11 (is-put-response-array11 k)) (feq ℕ (length (is-put-response-array11 k)) (length (responses-at k)))) (fsep ftrue (fsep ftrue ftrue)))))))
+  gives-put-response k b11 α11 γ11 = gives 𝓤 H A W a-unit (List Response × (Unit {0} × (Unit {0} × Unit {0}))) (λ ws. lasts put-response.ended ((α11 ∷ []), tt) ((record { ptr = (b11, 0); name = γ11; now = (responses-at k) }), (k, ((is-response-by k), tt))) ws) (λ r ws. (ws .0) ≡ set (responses-at k) k (is-response-by k)) tt ((is-put-response-array11 k), (tt, (tt, tt))) (λ r ws e. (refl, ap (λ (l : List Response). (l, (tt, (tt, tt)))) (e))) (sep 𝓤 (A .lft (α11 ∷ []) fullShare) (sem 𝓤 H A ftrue))
 
   abbrev is-state-in : ℕ → State
   is-state-in k = ((is-answered-in k) .state)
@@ -443,16 +443,16 @@ module _ {M′ : Type 1} (𝓤 : URA M′) (H : Heap 𝓤) (A : Atoms 𝓤) (W :
   gives-sound-by k = answers 𝓤 H A W a-bool (Unit {0} × (Unit {0} × Unit {0})) (λ ws. lasts sound-by.ended tt ((is-entry-in k), ((sound-at k), tt)) ws) (λ r. r ≡ soundBy (is-entry-in k) (sound-at k)) (is-sound-by k) (λ r e. e) (emp 𝓤)
 
   abbrev is-put-together : ℕ → Served
-  is-put-together k = (puttingTogether (s-at k) (archive-at k) (log-at k) (audit-at k) (outputs-at k))
+  is-put-together k = (puttingTogether (s-at k) (archive-at k) (log-at k) (audit-at k) (responses-at k))
 
   abbrev to-put-together : ℕ → Says-put-together 𝓤 H A at-mem run .Ghost
-  to-put-together k = ((tt, tt, tt, ((s-at k), ((archive-at k), ((log-at k), ((audit-at k), ((outputs-at k), tt))))), (a-State .val (s-at k) ∷ [], ((known-array a-ArchiveLine 15) .val (archive-at k) ∷ [], ((known-array a-LogLine 250) .val (log-at k) ∷ [], ((known-array a-AuditLine 200) .val (audit-at k) ∷ [], ((known-array a-Output 256) .val (outputs-at k) ∷ [], tt)))))), tt)
+  to-put-together k = ((tt, tt, tt, ((s-at k), ((archive-at k), ((log-at k), ((audit-at k), ((responses-at k), tt))))), (a-State .val (s-at k) ∷ [], ((known-array a-ArchiveLine 15) .val (archive-at k) ∷ [], ((known-array a-LogLine 250) .val (log-at k) ∷ [], ((known-array a-AuditLine 200) .val (audit-at k) ∷ [], ((known-array a-Response 256) .val (responses-at k) ∷ [], tt)))))), tt)
 
-  asks-put-together : (k : ℕ) → Fine a-State (s-at k) → Fine (known-array a-ArchiveLine 15) (archive-at k) → Fine (known-array a-LogLine 250) (log-at k) → Fine (known-array a-AuditLine 200) (audit-at k) → Fine (known-array a-Output 256) (outputs-at k) → ent 𝓤 (emp 𝓤) (Says-put-together 𝓤 H A at-mem run .pre (to-put-together k))
-  asks-put-together k f0 f1 f2 f3 f4 = qed W [] ∵ nothing ! $ nothing ! $ has ! (known-array a-Output 256) (outputs-at k) f4 $ fjoin ! $ has ! (known-array a-AuditLine 200) (audit-at k) f3 $ fjoin ! $ has ! (known-array a-LogLine 250) (log-at k) f2 $ fjoin ! $ has ! (known-array a-ArchiveLine 15) (archive-at k) f1 $ fjoin ! $ has ! a-State (s-at k) f0 $ fjoin ! $ nothing ! $ join ! $ done !
+  asks-put-together : (k : ℕ) → Fine a-State (s-at k) → Fine (known-array a-ArchiveLine 15) (archive-at k) → Fine (known-array a-LogLine 250) (log-at k) → Fine (known-array a-AuditLine 200) (audit-at k) → Fine (known-array a-Response 256) (responses-at k) → ent 𝓤 (emp 𝓤) (Says-put-together 𝓤 H A at-mem run .pre (to-put-together k))
+  asks-put-together k f0 f1 f2 f3 f4 = qed W [] ∵ nothing ! $ nothing ! $ has ! (known-array a-Response 256) (responses-at k) f4 $ fjoin ! $ has ! (known-array a-AuditLine 200) (audit-at k) f3 $ fjoin ! $ has ! (known-array a-LogLine 250) (log-at k) f2 $ fjoin ! $ has ! (known-array a-ArchiveLine 15) (archive-at k) f1 $ fjoin ! $ has ! a-State (s-at k) f0 $ fjoin ! $ nothing ! $ join ! $ done !
 
   gives-put-together : (k : ℕ) → (w : Val) → ent 𝓤 (Says-put-together 𝓤 H A at-mem run .post (to-put-together k) w) (H .⇛ (guard 𝓤 ((w ≡ a-Served .val (is-put-together k)) × Fine a-Served (is-put-together k)) (emp 𝓤)))
-  gives-put-together k = answers 𝓤 H A W a-Served (Unit {0} × (Unit {0} × (Unit {0} × (Unit {0} × (Unit {0} × Unit {0}))))) (λ ws. lasts put-together.ended tt ((s-at k), ((archive-at k), ((log-at k), ((audit-at k), ((outputs-at k), tt))))) ws) (λ r. r ≡ puttingTogether (s-at k) (archive-at k) (log-at k) (audit-at k) (outputs-at k)) (is-put-together k) (λ r e. e) (emp 𝓤)
+  gives-put-together k = answers 𝓤 H A W a-Served (Unit {0} × (Unit {0} × (Unit {0} × (Unit {0} × (Unit {0} × Unit {0}))))) (λ ws. lasts put-together.ended tt ((s-at k), ((archive-at k), ((log-at k), ((audit-at k), ((responses-at k), tt))))) ws) (λ r. r ≡ puttingTogether (s-at k) (archive-at k) (log-at k) (audit-at k) (responses-at k)) (is-put-together k) (λ r e. e) (emp 𝓤)
 
   exits : (k : ℕ) → k ≡ n → Fine a-Served (is-put-together k) → ent 𝓤 (⋆ 𝓤 H A []) (Post (a-Served .val (is-put-together k)))
   exits k last ok =
@@ -461,7 +461,7 @@ module _ {M′ : Type 1} (𝓤 : URA M′) (H : Heap 𝓤) (A : Atoms 𝓤) (W :
 
   -- the turns still to come get fewer
   abbrev Upto : Type 0
-  Upto = (k : ℕ) × ((k ≤ n) × (Fine a-State (s-at k) × (Fine a-bool (sound-at k) × (Fine (known-array a-ArchiveLine 15) (archive-at k) × (Fine (known-array a-LogLine 250) (log-at k) × (Fine (known-array a-AuditLine 200) (audit-at k) × Fine (known-array a-Output 256) (outputs-at k)))))))
+  Upto = (k : ℕ) × ((k ≤ n) × (Fine a-State (s-at k) × (Fine a-bool (sound-at k) × (Fine (known-array a-ArchiveLine 15) (archive-at k) × (Fine (known-array a-LogLine 250) (log-at k) × (Fine (known-array a-AuditLine 200) (audit-at k) × Fine (known-array a-Response 256) (responses-at k)))))))
 
   abbrev Nearer : Upto → Upto → Type 0
   Nearer j k = n - j .0 < n - k .0
@@ -469,7 +469,7 @@ module _ {M′ : Type 1} (𝓤 : URA M′) (H : Heap 𝓤) (A : Atoms 𝓤) (W :
   Nearer-wf : WellFounded Nearer
   Nearer-wf = InvImage·wf (λ (k : Upto). n - k .0) (Nat·lt-wfRel .wf)
 
-  module _ (𝓣 : Tables 𝓤 H) (known-in-block : Triple 𝓤 (𝓣 .C #desk·in-block) (Says-in-block 𝓤 H A at-mem run)) (known-state-of : Triple 𝓤 (𝓣 .C #desk·state-of) (Says-state-of 𝓤 H A at-mem run)) (known-whole : Triple 𝓤 (𝓣 .C #state·whole) (Says-whole 𝓤 H A at-mem run)) (known-archive-of : Triple 𝓤 (𝓣 .C #desk·archive-of) (Says-archive-of 𝓤 H A at-mem run)) (known-log-of : Triple 𝓤 (𝓣 .C #desk·log-of) (Says-log-of 𝓤 H A at-mem run)) (known-audit-of : Triple 𝓤 (𝓣 .C #desk·audit-of) (Says-audit-of 𝓤 H A at-mem run)) (known-no-outputs : Triple 𝓤 (𝓣 .C #desk·no-outputs) (Says-no-outputs 𝓤 H A at-mem run)) (known-fetch-input : Triple 𝓤 (𝓣 .C #desk·fetch-input) (Says-fetch-input 𝓤 H A at-mem run)) (known-entry-in : Triple 𝓤 (𝓣 .C #desk·entry-in) (Says-entry-in 𝓤 H A at-mem run)) (known-command-in : Triple 𝓤 (𝓣 .C #desk·command-in) (Says-command-in 𝓤 H A at-mem run)) (known-seen : Triple 𝓤 (𝓣 .C #device·seen) (Says-seen 𝓤 H A at-mem run)) (known-answer : Triple 𝓤 (𝓣 .C #device·answer) (Says-answer 𝓤 H A at-mem run)) (known-answered-in : Triple 𝓤 (𝓣 .C #desk·answered-in) (Says-answered-in 𝓤 H A at-mem run)) (known-output-by : Triple 𝓤 (𝓣 .C #desk·output-by) (Says-output-by 𝓤 H A at-mem run)) (known-put-output : Triple 𝓤 (𝓣 .C #desk·put-output) (Says-put-output 𝓤 H A at-mem run)) (known-state-in : Triple 𝓤 (𝓣 .C #desk·state-in) (Says-state-in 𝓤 H A at-mem run)) (known-sound-by : Triple 𝓤 (𝓣 .C #desk·sound-by) (Says-sound-by 𝓤 H A at-mem run)) (known-put-together : Triple 𝓤 (𝓣 .C #desk·put-together) (Says-put-together 𝓤 H A at-mem run)) where
+  module _ (𝓣 : Tables 𝓤 H) (known-in-block : Triple 𝓤 (𝓣 .C #desk·in-block) (Says-in-block 𝓤 H A at-mem run)) (known-state-of : Triple 𝓤 (𝓣 .C #desk·state-of) (Says-state-of 𝓤 H A at-mem run)) (known-whole : Triple 𝓤 (𝓣 .C #state·whole) (Says-whole 𝓤 H A at-mem run)) (known-archive-of : Triple 𝓤 (𝓣 .C #desk·archive-of) (Says-archive-of 𝓤 H A at-mem run)) (known-log-of : Triple 𝓤 (𝓣 .C #desk·log-of) (Says-log-of 𝓤 H A at-mem run)) (known-audit-of : Triple 𝓤 (𝓣 .C #desk·audit-of) (Says-audit-of 𝓤 H A at-mem run)) (known-no-responses : Triple 𝓤 (𝓣 .C #desk·no-responses) (Says-no-responses 𝓤 H A at-mem run)) (known-fetch-input : Triple 𝓤 (𝓣 .C #desk·fetch-input) (Says-fetch-input 𝓤 H A at-mem run)) (known-entry-in : Triple 𝓤 (𝓣 .C #desk·entry-in) (Says-entry-in 𝓤 H A at-mem run)) (known-command-in : Triple 𝓤 (𝓣 .C #desk·command-in) (Says-command-in 𝓤 H A at-mem run)) (known-seen : Triple 𝓤 (𝓣 .C #device·seen) (Says-seen 𝓤 H A at-mem run)) (known-answer : Triple 𝓤 (𝓣 .C #device·answer) (Says-answer 𝓤 H A at-mem run)) (known-answered-in : Triple 𝓤 (𝓣 .C #desk·answered-in) (Says-answered-in 𝓤 H A at-mem run)) (known-response-by : Triple 𝓤 (𝓣 .C #desk·response-by) (Says-response-by 𝓤 H A at-mem run)) (known-put-response : Triple 𝓤 (𝓣 .C #desk·put-response) (Says-put-response 𝓤 H A at-mem run)) (known-state-in : Triple 𝓤 (𝓣 .C #desk·state-in) (Says-state-in 𝓤 H A at-mem run)) (known-sound-by : Triple 𝓤 (𝓣 .C #desk·sound-by) (Says-sound-by 𝓤 H A at-mem run)) (known-put-together : Triple 𝓤 (𝓣 .C #desk·put-together) (Says-put-together 𝓤 H A at-mem run)) where
     abbrev fm : FmC 𝓤 H (W .laws) (𝓣 .C)
     fm = fmOf 𝓤 H (W .laws) 𝓣
 
@@ -508,7 +508,7 @@ module _ {M′ : Type 1} (𝓤 : URA M′) (H : Heap 𝓤) (A : Atoms 𝓤) (W :
     ty10 = spell M.table (tyArray (tyNamed ((98 ∷ 111 ∷ 111 ∷ 107 ∷ 115 ∷ 58 ∷ 58 ∷ 65 ∷ 117 ∷ 100 ∷ 105 ∷ 116 ∷ 76 ∷ 105 ∷ 110 ∷ 101 ∷ []), [])) 200)
 
     abbrev ty11 : Ty
-    ty11 = spell M.table (tyArray (tyNamed ((100 ∷ 101 ∷ 115 ∷ 107 ∷ 58 ∷ 58 ∷ 79 ∷ 117 ∷ 116 ∷ 112 ∷ 117 ∷ 116 ∷ []), [])) 256)
+    ty11 = spell M.table (tyArray (tyNamed ((100 ∷ 101 ∷ 115 ∷ 107 ∷ 58 ∷ 58 ∷ 82 ∷ 101 ∷ 115 ∷ 112 ∷ 111 ∷ 110 ∷ 115 ∷ 101 ∷ []), [])) 256)
 
     abbrev ty12 : Ty
     ty12 = spell M.table (tyInt w64)
@@ -532,7 +532,7 @@ module _ {M′ : Type 1} (𝓤 : URA M′) (H : Heap 𝓤) (A : Atoms 𝓤) (W :
     ty18 = spell M.table (tyNamed ((99 ∷ 111 ∷ 109 ∷ 109 ∷ 97 ∷ 110 ∷ 100 ∷ 115 ∷ 58 ∷ 58 ∷ 65 ∷ 110 ∷ 115 ∷ 119 ∷ 101 ∷ 114 ∷ []), []))
 
     abbrev ty19 : Ty
-    ty19 = spell M.table (tyNamed ((100 ∷ 101 ∷ 115 ∷ 107 ∷ 58 ∷ 58 ∷ 79 ∷ 117 ∷ 116 ∷ 112 ∷ 117 ∷ 116 ∷ []), []))
+    ty19 = spell M.table (tyNamed ((100 ∷ 101 ∷ 115 ∷ 107 ∷ 58 ∷ 58 ∷ 82 ∷ 101 ∷ 115 ∷ 112 ∷ 111 ∷ 110 ∷ 115 ∷ 101 ∷ []), []))
 
     abbrev ty20 : Ty
     ty20 = spell M.table (tyArray (tyNamed ((98 ∷ 111 ∷ 111 ∷ 107 ∷ 115 ∷ 58 ∷ 58 ∷ 65 ∷ 114 ∷ 99 ∷ 104 ∷ 105 ∷ 118 ∷ 101 ∷ 76 ∷ 105 ∷ 110 ∷ 101 ∷ []), [])) 15)
@@ -544,7 +544,7 @@ module _ {M′ : Type 1} (𝓤 : URA M′) (H : Heap 𝓤) (A : Atoms 𝓤) (W :
     ty22 = spell M.table (tyArray (tyNamed ((98 ∷ 111 ∷ 111 ∷ 107 ∷ 115 ∷ 58 ∷ 58 ∷ 65 ∷ 117 ∷ 100 ∷ 105 ∷ 116 ∷ 76 ∷ 105 ∷ 110 ∷ 101 ∷ []), [])) 200)
 
     abbrev ty23 : Ty
-    ty23 = spell M.table (tyArray (tyNamed ((100 ∷ 101 ∷ 115 ∷ 107 ∷ 58 ∷ 58 ∷ 79 ∷ 117 ∷ 116 ∷ 112 ∷ 117 ∷ 116 ∷ []), [])) 256)
+    ty23 = spell M.table (tyArray (tyNamed ((100 ∷ 101 ∷ 115 ∷ 107 ∷ 58 ∷ 58 ∷ 82 ∷ 101 ∷ 115 ∷ 112 ∷ 111 ∷ 110 ∷ 115 ∷ 101 ∷ []), [])) 256)
 
     abbrev ty24 : Ty
     ty24 = spell M.table tyBool
@@ -595,10 +595,10 @@ module _ {M′ : Type 1} (𝓤 : URA M′) (H : Heap 𝓤) (A : Atoms 𝓤) (W :
     ty39 = spell M.table tyUnit
 
     abbrev ty40 : Ty
-    ty40 = spell M.table (tyRef erased mut (tyArray (tyNamed ((100 ∷ 101 ∷ 115 ∷ 107 ∷ 58 ∷ 58 ∷ 79 ∷ 117 ∷ 116 ∷ 112 ∷ 117 ∷ 116 ∷ []), [])) 256))
+    ty40 = spell M.table (tyRef erased mut (tyArray (tyNamed ((100 ∷ 101 ∷ 115 ∷ 107 ∷ 58 ∷ 58 ∷ 82 ∷ 101 ∷ 115 ∷ 112 ∷ 111 ∷ 110 ∷ 115 ∷ 101 ∷ []), [])) 256))
 
     abbrev ty41 : Ty
-    ty41 = spell M.table (tyStruct (38 ∷ 91 ∷ 93 ∷ []) (tcons (tyRef erased mut (tyNamed ((100 ∷ 101 ∷ 115 ∷ 107 ∷ 58 ∷ 58 ∷ 79 ∷ 117 ∷ 116 ∷ 112 ∷ 117 ∷ 116 ∷ []), []))) (tcons (tyInt w64) tnil)))
+    ty41 = spell M.table (tyStruct (38 ∷ 91 ∷ 93 ∷ []) (tcons (tyRef erased mut (tyNamed ((100 ∷ 101 ∷ 115 ∷ 107 ∷ 58 ∷ 58 ∷ 82 ∷ 101 ∷ 115 ∷ 112 ∷ 111 ∷ 110 ∷ 115 ∷ 101 ∷ []), []))) (tcons (tyInt w64) tnil)))
 
     module _ (l0 l1 l2 l3 l4 l5 l6 l7 l8 l9 l10 l11 l12 l13 l14 l15 l16 l17 l18 l19 l20 l21 l22 l23 l24 l25 l26 l27 l28 l29 l30 l31 l32 l33 l34 l35 l36 l37 l38 l39 l40 l41 : ℕ) where
       abbrev E : Env 𝓤 H
@@ -606,7 +606,7 @@ module _ {M′ : Type 1} (𝓤 : URA M′) (H : Heap 𝓤) (A : Atoms 𝓤) (W :
 
       -- what is held after k turns
       abbrev Cells : ℕ → List (Item 𝓤)
-      Cells k = (‵ (froom ty41 l41 0) ∷ ‵ (fdies ty41 l41) ∷ ‵ (froom ty40 l40 0) ∷ ‵ (fdies ty40 l40) ∷ ‵ (froom ty39 l39 0) ∷ ‵ (fdies ty39 l39) ∷ ‵ (froom ty38 l38 0) ∷ ‵ (fdies ty38 l38) ∷ ‵ (froom ty37 l37 0) ∷ ‵ (fdies ty37 l37) ∷ ‵ (froom ty36 l36 0) ∷ ‵ (fdies ty36 l36) ∷ ‵ (froom ty35 l35 0) ∷ ‵ (fdies ty35 l35) ∷ ‵ (froom ty34 l34 0) ∷ ‵ (fdies ty34 l34) ∷ ‵ (froom ty33 l33 0) ∷ ‵ (fdies ty33 l33) ∷ ‵ (froom ty32 l32 0) ∷ ‵ (fdies ty32 l32) ∷ ‵ (froom ty31 l31 0) ∷ ‵ (fdies ty31 l31) ∷ ‵ (froom ty30 l30 0) ∷ ‵ (fdies ty30 l30) ∷ ‵ (froom ty29 l29 0) ∷ ‵ (fdies ty29 l29) ∷ ‵ (froom ty28 l28 0) ∷ ‵ (fdies ty28 l28) ∷ ‵ (froom ty27 l27 0) ∷ ‵ (fdies ty27 l27) ∷ ‵ (froom ty26 l26 0) ∷ ‵ (fdies ty26 l26) ∷ ‵ (froom ty25 l25 0) ∷ ‵ (fdies ty25 l25) ∷ ‵ (froom ty24 l24 0) ∷ ‵ (fdies ty24 l24) ∷ ‵ (froom ty23 l23 0) ∷ ‵ (fdies ty23 l23) ∷ ‵ (froom ty22 l22 0) ∷ ‵ (fdies ty22 l22) ∷ ‵ (froom ty21 l21 0) ∷ ‵ (fdies ty21 l21) ∷ ‵ (froom ty20 l20 0) ∷ ‵ (fdies ty20 l20) ∷ ‵ (froom ty19 l19 0) ∷ ‵ (fdies ty19 l19) ∷ ‵ (froom ty18 l18 0) ∷ ‵ (fdies ty18 l18) ∷ ‵ (froom ty17 l17 0) ∷ ‵ (fdies ty17 l17) ∷ ‵ (froom ty16 l16 0) ∷ ‵ (fdies ty16 l16) ∷ ‵ (froom ty15 l15 0) ∷ ‵ (fdies ty15 l15) ∷ ‵ (froom ty14 l14 0) ∷ ‵ (fdies ty14 l14) ∷ ‵ (froom ty13 l13 0) ∷ ‵ (fdies ty13 l13) ∷ ‵ (fat fullShare ty12 l12 0 (a-usize .val k)) ∷ ‵ (fdies ty12 l12) ∷ ‵ (fat fullShare ty11 l11 0 ((known-array a-Output 256) .val (outputs-at k))) ∷ ‵ (fdies ty11 l11) ∷ ‵ (fat fullShare ty10 l10 0 ((known-array a-AuditLine 200) .val (audit-at k))) ∷ ‵ (fdies ty10 l10) ∷ ‵ (fat fullShare ty9 l9 0 ((known-array a-LogLine 250) .val (log-at k))) ∷ ‵ (fdies ty9 l9) ∷ ‵ (fat fullShare ty8 l8 0 ((known-array a-ArchiveLine 15) .val (archive-at k))) ∷ ‵ (fdies ty8 l8) ∷ ‵ (fat fullShare ty7 l7 0 (a-bool .val (sound-at k))) ∷ ‵ (fdies ty7 l7) ∷ ‵ (fat fullShare ty6 l6 0 (a-State .val (s-at k))) ∷ ‵ (fdies ty6 l6) ∷ ‵ (fat fullShare ty5 l5 0 (a-usize .val n)) ∷ ‵ (fdies ty5 l5) ∷ ‵ (fat fullShare ty4 l4 0 ((known-array a-Input 256) .val inputs)) ∷ ‵ (fdies ty4 l4) ∷ ‵ (froom ty3 l3 0) ∷ ‵ (fdies ty3 l3) ∷ ‵ (froom ty2 l2 0) ∷ ‵ (fdies ty2 l2) ∷ ‵ (froom ty1 l1 0) ∷ ‵ (fdies ty1 l1) ∷ ‵ (froom ty0 l0 0) ∷ ‵ (fdies ty0 l0) ∷ [])
+      Cells k = (‵ (froom ty41 l41 0) ∷ ‵ (fdies ty41 l41) ∷ ‵ (froom ty40 l40 0) ∷ ‵ (fdies ty40 l40) ∷ ‵ (froom ty39 l39 0) ∷ ‵ (fdies ty39 l39) ∷ ‵ (froom ty38 l38 0) ∷ ‵ (fdies ty38 l38) ∷ ‵ (froom ty37 l37 0) ∷ ‵ (fdies ty37 l37) ∷ ‵ (froom ty36 l36 0) ∷ ‵ (fdies ty36 l36) ∷ ‵ (froom ty35 l35 0) ∷ ‵ (fdies ty35 l35) ∷ ‵ (froom ty34 l34 0) ∷ ‵ (fdies ty34 l34) ∷ ‵ (froom ty33 l33 0) ∷ ‵ (fdies ty33 l33) ∷ ‵ (froom ty32 l32 0) ∷ ‵ (fdies ty32 l32) ∷ ‵ (froom ty31 l31 0) ∷ ‵ (fdies ty31 l31) ∷ ‵ (froom ty30 l30 0) ∷ ‵ (fdies ty30 l30) ∷ ‵ (froom ty29 l29 0) ∷ ‵ (fdies ty29 l29) ∷ ‵ (froom ty28 l28 0) ∷ ‵ (fdies ty28 l28) ∷ ‵ (froom ty27 l27 0) ∷ ‵ (fdies ty27 l27) ∷ ‵ (froom ty26 l26 0) ∷ ‵ (fdies ty26 l26) ∷ ‵ (froom ty25 l25 0) ∷ ‵ (fdies ty25 l25) ∷ ‵ (froom ty24 l24 0) ∷ ‵ (fdies ty24 l24) ∷ ‵ (froom ty23 l23 0) ∷ ‵ (fdies ty23 l23) ∷ ‵ (froom ty22 l22 0) ∷ ‵ (fdies ty22 l22) ∷ ‵ (froom ty21 l21 0) ∷ ‵ (fdies ty21 l21) ∷ ‵ (froom ty20 l20 0) ∷ ‵ (fdies ty20 l20) ∷ ‵ (froom ty19 l19 0) ∷ ‵ (fdies ty19 l19) ∷ ‵ (froom ty18 l18 0) ∷ ‵ (fdies ty18 l18) ∷ ‵ (froom ty17 l17 0) ∷ ‵ (fdies ty17 l17) ∷ ‵ (froom ty16 l16 0) ∷ ‵ (fdies ty16 l16) ∷ ‵ (froom ty15 l15 0) ∷ ‵ (fdies ty15 l15) ∷ ‵ (froom ty14 l14 0) ∷ ‵ (fdies ty14 l14) ∷ ‵ (froom ty13 l13 0) ∷ ‵ (fdies ty13 l13) ∷ ‵ (fat fullShare ty12 l12 0 (a-usize .val k)) ∷ ‵ (fdies ty12 l12) ∷ ‵ (fat fullShare ty11 l11 0 ((known-array a-Response 256) .val (responses-at k))) ∷ ‵ (fdies ty11 l11) ∷ ‵ (fat fullShare ty10 l10 0 ((known-array a-AuditLine 200) .val (audit-at k))) ∷ ‵ (fdies ty10 l10) ∷ ‵ (fat fullShare ty9 l9 0 ((known-array a-LogLine 250) .val (log-at k))) ∷ ‵ (fdies ty9 l9) ∷ ‵ (fat fullShare ty8 l8 0 ((known-array a-ArchiveLine 15) .val (archive-at k))) ∷ ‵ (fdies ty8 l8) ∷ ‵ (fat fullShare ty7 l7 0 (a-bool .val (sound-at k))) ∷ ‵ (fdies ty7 l7) ∷ ‵ (fat fullShare ty6 l6 0 (a-State .val (s-at k))) ∷ ‵ (fdies ty6 l6) ∷ ‵ (fat fullShare ty5 l5 0 (a-usize .val n)) ∷ ‵ (fdies ty5 l5) ∷ ‵ (fat fullShare ty4 l4 0 ((known-array a-Input 256) .val inputs)) ∷ ‵ (fdies ty4 l4) ∷ ‵ (froom ty3 l3 0) ∷ ‵ (fdies ty3 l3) ∷ ‵ (froom ty2 l2 0) ∷ ‵ (fdies ty2 l2) ∷ ‵ (froom ty1 l1 0) ∷ ‵ (fdies ty1 l1) ∷ ‵ (froom ty0 l0 0) ∷ ‵ (fdies ty0 l0) ∷ [])
 
       abbrev At : Upto → List (Item 𝓤)
       At i = Cells (i .0)
@@ -615,47 +615,47 @@ module _ {M′ : Type 1} (𝓤 : URA M′) (H : Heap 𝓤) (A : Atoms 𝓤) (W :
       abbrev Turned : Upto → Out → SProp 𝓤
       Turned i = afterTurn 𝓤 H (Below 𝓤 H A Nearer At i) (afterBlock 𝓤 H (afterSeq 𝓤 H (Wp 𝓤 H (𝓣 .C) (𝓣 .Λ) E M.t-15 (atReturn 𝓤 H E Post)) (atReturn 𝓤 H E Post)))
 
-      left-loop : (n-fine : Fine a-usize n) (k : ℕ) (low : k ≤ n) (f-s : Fine a-State (s-at k)) (f-sound : Fine a-bool (sound-at k)) (f-archive : Fine (known-array a-ArchiveLine 15) (archive-at k)) (f-log : Fine (known-array a-LogLine 250) (log-at k)) (f-audit : Fine (known-array a-AuditLine 200) (audit-at k)) (f-outputs : Fine (known-array a-Output 256) (outputs-at k)) (last : k ≡ n) → Sq W (‵ (froom ty41 l41 0) ∷ ‵ (fdies ty41 l41) ∷ ‵ (froom ty40 l40 0) ∷ ‵ (fdies ty40 l40) ∷ ‵ (froom ty39 l39 0) ∷ ‵ (fdies ty39 l39) ∷ ‵ (froom ty38 l38 0) ∷ ‵ (fdies ty38 l38) ∷ ‵ (froom ty37 l37 0) ∷ ‵ (fdies ty37 l37) ∷ ‵ (froom ty36 l36 0) ∷ ‵ (fdies ty36 l36) ∷ ‵ (froom ty35 l35 0) ∷ ‵ (fdies ty35 l35) ∷ ‵ (froom ty34 l34 0) ∷ ‵ (fdies ty34 l34) ∷ ‵ (froom ty33 l33 0) ∷ ‵ (fdies ty33 l33) ∷ ‵ (froom ty32 l32 0) ∷ ‵ (fdies ty32 l32) ∷ ‵ (froom ty31 l31 0) ∷ ‵ (fdies ty31 l31) ∷ ‵ (froom ty30 l30 0) ∷ ‵ (fdies ty30 l30) ∷ ‵ (froom ty29 l29 0) ∷ ‵ (fdies ty29 l29) ∷ ‵ (froom ty28 l28 0) ∷ ‵ (fdies ty28 l28) ∷ ‵ (froom ty27 l27 0) ∷ ‵ (fdies ty27 l27) ∷ ‵ (froom ty26 l26 0) ∷ ‵ (fdies ty26 l26) ∷ ‵ (froom ty25 l25 0) ∷ ‵ (fdies ty25 l25) ∷ ‵ (fat fullShare ty24 l24 0 (a-bool .val (ltb k n))) ∷ ‵ (fdies ty24 l24) ∷ ‵ (froom ty23 l23 0) ∷ ‵ (fdies ty23 l23) ∷ ‵ (froom ty22 l22 0) ∷ ‵ (fdies ty22 l22) ∷ ‵ (froom ty21 l21 0) ∷ ‵ (fdies ty21 l21) ∷ ‵ (froom ty20 l20 0) ∷ ‵ (fdies ty20 l20) ∷ ‵ (froom ty19 l19 0) ∷ ‵ (fdies ty19 l19) ∷ ‵ (froom ty18 l18 0) ∷ ‵ (fdies ty18 l18) ∷ ‵ (froom ty17 l17 0) ∷ ‵ (fdies ty17 l17) ∷ ‵ (froom ty16 l16 0) ∷ ‵ (fdies ty16 l16) ∷ ‵ (froom ty15 l15 0) ∷ ‵ (fdies ty15 l15) ∷ ‵ (froom ty14 l14 0) ∷ ‵ (fdies ty14 l14) ∷ ‵ (froom ty13 l13 0) ∷ ‵ (fdies ty13 l13) ∷ ‵ (fat fullShare ty12 l12 0 (a-usize .val k)) ∷ ‵ (fdies ty12 l12) ∷ ‵ (fat fullShare ty11 l11 0 ((known-array a-Output 256) .val (outputs-at k))) ∷ ‵ (fdies ty11 l11) ∷ ‵ (fat fullShare ty10 l10 0 ((known-array a-AuditLine 200) .val (audit-at k))) ∷ ‵ (fdies ty10 l10) ∷ ‵ (fat fullShare ty9 l9 0 ((known-array a-LogLine 250) .val (log-at k))) ∷ ‵ (fdies ty9 l9) ∷ ‵ (fat fullShare ty8 l8 0 ((known-array a-ArchiveLine 15) .val (archive-at k))) ∷ ‵ (fdies ty8 l8) ∷ ‵ (fat fullShare ty7 l7 0 (a-bool .val (sound-at k))) ∷ ‵ (fdies ty7 l7) ∷ ‵ (fat fullShare ty6 l6 0 (a-State .val (s-at k))) ∷ ‵ (fdies ty6 l6) ∷ ‵ (fat fullShare ty5 l5 0 (a-usize .val n)) ∷ ‵ (fdies ty5 l5) ∷ ‵ (fat fullShare ty4 l4 0 ((known-array a-Input 256) .val inputs)) ∷ ‵ (fdies ty4 l4) ∷ ‵ (froom ty3 l3 0) ∷ ‵ (fdies ty3 l3) ∷ ‵ (froom ty2 l2 0) ∷ ‵ (fdies ty2 l2) ∷ ‵ (froom ty1 l1 0) ∷ ‵ (fdies ty1 l1) ∷ ‵ (froom ty0 l0 0) ∷ ‵ (fdies ty0 l0) ∷ []) (runs (𝓣 .C) (𝓣 .Λ) E M.t-15 (atRet E Post))
-      left-loop n-fine k low f-s f-sound f-archive f-log f-audit f-outputs last =
+      left-loop : (n-fine : Fine a-usize n) (k : ℕ) (low : k ≤ n) (f-s : Fine a-State (s-at k)) (f-sound : Fine a-bool (sound-at k)) (f-archive : Fine (known-array a-ArchiveLine 15) (archive-at k)) (f-log : Fine (known-array a-LogLine 250) (log-at k)) (f-audit : Fine (known-array a-AuditLine 200) (audit-at k)) (f-responses : Fine (known-array a-Response 256) (responses-at k)) (last : k ≡ n) → Sq W (‵ (froom ty41 l41 0) ∷ ‵ (fdies ty41 l41) ∷ ‵ (froom ty40 l40 0) ∷ ‵ (fdies ty40 l40) ∷ ‵ (froom ty39 l39 0) ∷ ‵ (fdies ty39 l39) ∷ ‵ (froom ty38 l38 0) ∷ ‵ (fdies ty38 l38) ∷ ‵ (froom ty37 l37 0) ∷ ‵ (fdies ty37 l37) ∷ ‵ (froom ty36 l36 0) ∷ ‵ (fdies ty36 l36) ∷ ‵ (froom ty35 l35 0) ∷ ‵ (fdies ty35 l35) ∷ ‵ (froom ty34 l34 0) ∷ ‵ (fdies ty34 l34) ∷ ‵ (froom ty33 l33 0) ∷ ‵ (fdies ty33 l33) ∷ ‵ (froom ty32 l32 0) ∷ ‵ (fdies ty32 l32) ∷ ‵ (froom ty31 l31 0) ∷ ‵ (fdies ty31 l31) ∷ ‵ (froom ty30 l30 0) ∷ ‵ (fdies ty30 l30) ∷ ‵ (froom ty29 l29 0) ∷ ‵ (fdies ty29 l29) ∷ ‵ (froom ty28 l28 0) ∷ ‵ (fdies ty28 l28) ∷ ‵ (froom ty27 l27 0) ∷ ‵ (fdies ty27 l27) ∷ ‵ (froom ty26 l26 0) ∷ ‵ (fdies ty26 l26) ∷ ‵ (froom ty25 l25 0) ∷ ‵ (fdies ty25 l25) ∷ ‵ (fat fullShare ty24 l24 0 (a-bool .val (ltb k n))) ∷ ‵ (fdies ty24 l24) ∷ ‵ (froom ty23 l23 0) ∷ ‵ (fdies ty23 l23) ∷ ‵ (froom ty22 l22 0) ∷ ‵ (fdies ty22 l22) ∷ ‵ (froom ty21 l21 0) ∷ ‵ (fdies ty21 l21) ∷ ‵ (froom ty20 l20 0) ∷ ‵ (fdies ty20 l20) ∷ ‵ (froom ty19 l19 0) ∷ ‵ (fdies ty19 l19) ∷ ‵ (froom ty18 l18 0) ∷ ‵ (fdies ty18 l18) ∷ ‵ (froom ty17 l17 0) ∷ ‵ (fdies ty17 l17) ∷ ‵ (froom ty16 l16 0) ∷ ‵ (fdies ty16 l16) ∷ ‵ (froom ty15 l15 0) ∷ ‵ (fdies ty15 l15) ∷ ‵ (froom ty14 l14 0) ∷ ‵ (fdies ty14 l14) ∷ ‵ (froom ty13 l13 0) ∷ ‵ (fdies ty13 l13) ∷ ‵ (fat fullShare ty12 l12 0 (a-usize .val k)) ∷ ‵ (fdies ty12 l12) ∷ ‵ (fat fullShare ty11 l11 0 ((known-array a-Response 256) .val (responses-at k))) ∷ ‵ (fdies ty11 l11) ∷ ‵ (fat fullShare ty10 l10 0 ((known-array a-AuditLine 200) .val (audit-at k))) ∷ ‵ (fdies ty10 l10) ∷ ‵ (fat fullShare ty9 l9 0 ((known-array a-LogLine 250) .val (log-at k))) ∷ ‵ (fdies ty9 l9) ∷ ‵ (fat fullShare ty8 l8 0 ((known-array a-ArchiveLine 15) .val (archive-at k))) ∷ ‵ (fdies ty8 l8) ∷ ‵ (fat fullShare ty7 l7 0 (a-bool .val (sound-at k))) ∷ ‵ (fdies ty7 l7) ∷ ‵ (fat fullShare ty6 l6 0 (a-State .val (s-at k))) ∷ ‵ (fdies ty6 l6) ∷ ‵ (fat fullShare ty5 l5 0 (a-usize .val n)) ∷ ‵ (fdies ty5 l5) ∷ ‵ (fat fullShare ty4 l4 0 ((known-array a-Input 256) .val inputs)) ∷ ‵ (fdies ty4 l4) ∷ ‵ (froom ty3 l3 0) ∷ ‵ (fdies ty3 l3) ∷ ‵ (froom ty2 l2 0) ∷ ‵ (fdies ty2 l2) ∷ ‵ (froom ty1 l1 0) ∷ ‵ (fdies ty1 l1) ∷ ‵ (froom ty0 l0 0) ∷ ‵ (fdies ty0 l0) ∷ []) (runs (𝓣 .C) (𝓣 .Λ) E M.t-15 (atRet E Post))
+      left-loop n-fine k low f-s f-sound f-archive f-log f-audit f-responses last =
           forget ! 34 refl $
           assigns ! (of-opd ! (load ! (from ! (stop !)) (look ! 66 refl))) (from ! (stop !)) (init ! 42 refl ((known-array a-ArchiveLine 15) .lawful 𝓤 H A W .typed (archive-at k) _ f-archive .0)) $
           assigns ! (of-opd ! (load ! (from ! (stop !)) (look ! 64 refl))) (from ! (stop !)) (init ! 40 refl ((known-array a-LogLine 250) .lawful 𝓤 H A W .typed (log-at k) _ f-log .0)) $
           assigns ! (of-opd ! (load ! (from ! (stop !)) (look ! 62 refl))) (from ! (stop !)) (init ! 38 refl ((known-array a-AuditLine 200) .lawful 𝓤 H A W .typed (audit-at k) _ f-audit .0)) $
-          assigns ! (of-opd ! (load ! (from ! (stop !)) (look ! 60 refl))) (from ! (stop !)) (init ! 36 refl ((known-array a-Output 256) .lawful 𝓤 H A W .typed (outputs-at k) _ f-outputs .0)) $
-          calls-value ! fm (Says-put-together 𝓤 H A at-mem run) known-put-together (to-put-together k) (a-Served .val (is-put-together k)) _ (asks-put-together k f-s f-archive f-log f-audit f-outputs) (gives-put-together k) (and-then ! (load ! (from ! (stop !)) (look ! 71 refl)) (and-then ! (load ! (from ! (stop !)) (look ! 43 refl)) (and-then ! (load ! (from ! (stop !)) (look ! 41 refl)) (and-then ! (load ! (from ! (stop !)) (look ! 39 refl)) (and-then ! (load ! (from ! (stop !)) (look ! 37 refl)) (no-more !)))))) (λ t-put-together.
+          assigns ! (of-opd ! (load ! (from ! (stop !)) (look ! 60 refl))) (from ! (stop !)) (init ! 36 refl ((known-array a-Response 256) .lawful 𝓤 H A W .typed (responses-at k) _ f-responses .0)) $
+          calls-value ! fm (Says-put-together 𝓤 H A at-mem run) known-put-together (to-put-together k) (a-Served .val (is-put-together k)) _ (asks-put-together k f-s f-archive f-log f-audit f-responses) (gives-put-together k) (and-then ! (load ! (from ! (stop !)) (look ! 71 refl)) (and-then ! (load ! (from ! (stop !)) (look ! 43 refl)) (and-then ! (load ! (from ! (stop !)) (look ! 41 refl)) (and-then ! (load ! (from ! (stop !)) (look ! 39 refl)) (and-then ! (load ! (from ! (stop !)) (look ! 37 refl)) (no-more !)))))) (λ t-put-together.
           land ! (from ! (stop !)) (init ! 82 refl (a-Served .lawful 𝓤 H A W .typed (is-put-together k) _ t-put-together .0)) $
           returns ! (look ! 82 refl) $ forget ! 36 refl $ forget ! 38 refl $ forget ! 40 refl $ forget ! 42 refl $ forget ! 58 refl $ forget ! 60 refl $ forget ! 62 refl $ forget ! 64 refl $ forget ! 66 refl $ forget ! 68 refl $ forget ! 70 refl $ forget ! 72 refl $ forget ! 74 refl $ forget ! 82 refl $
           move ! (82 ∷ 83 ∷ []) $ free1 ! $ move ! (80 ∷ 81 ∷ []) $ free1 ! $ move ! (78 ∷ 79 ∷ []) $ free1 ! $ move ! (76 ∷ 77 ∷ []) $ free1 ! $ move ! (74 ∷ 75 ∷ []) $ free1 ! $ move ! (72 ∷ 73 ∷ []) $ free1 ! $ move ! (70 ∷ 71 ∷ []) $ free1 ! $ move ! (68 ∷ 69 ∷ []) $ free1 ! $ move ! (66 ∷ 67 ∷ []) $ free1 ! $ move ! (64 ∷ 65 ∷ []) $ free1 ! $ move ! (62 ∷ 63 ∷ []) $ free1 ! $ move ! (60 ∷ 61 ∷ []) $ free1 ! $ move ! (58 ∷ 59 ∷ []) $ free1 ! $ move ! (56 ∷ 57 ∷ []) $ free1 ! $ move ! (54 ∷ 55 ∷ []) $ free1 ! $ move ! (52 ∷ 53 ∷ []) $ free1 ! $ move ! (50 ∷ 51 ∷ []) $ free1 ! $ move ! (48 ∷ 49 ∷ []) $ free1 ! $ move ! (46 ∷ 47 ∷ []) $ free1 ! $ move ! (44 ∷ 45 ∷ []) $ free1 ! $ move ! (42 ∷ 43 ∷ []) $ free1 ! $ move ! (40 ∷ 41 ∷ []) $ free1 ! $ move ! (38 ∷ 39 ∷ []) $ free1 ! $ move ! (36 ∷ 37 ∷ []) $ free1 ! $ move ! (34 ∷ 35 ∷ []) $ free1 ! $ move ! (32 ∷ 33 ∷ []) $ free1 ! $ move ! (30 ∷ 31 ∷ []) $ free1 ! $ move ! (28 ∷ 29 ∷ []) $ free1 ! $ move ! (26 ∷ 27 ∷ []) $ free1 ! $ move ! (24 ∷ 25 ∷ []) $ free1 ! $ move ! (22 ∷ 23 ∷ []) $ free1 ! $ move ! (20 ∷ 21 ∷ []) $ free1 ! $ move ! (18 ∷ 19 ∷ []) $ free1 ! $ move ! (16 ∷ 17 ∷ []) $ free1 ! $ move ! (14 ∷ 15 ∷ []) $ free1 ! $ move ! (12 ∷ 13 ∷ []) $ free1 ! $ move ! (10 ∷ 11 ∷ []) $ free1 ! $ move ! (8 ∷ 9 ∷ []) $ free1 ! $ move ! (6 ∷ 7 ∷ []) $ free1 ! $ move ! (4 ∷ 5 ∷ []) $ free1 ! $ move ! (2 ∷ 3 ∷ []) $ free1 ! $ free1 ! $ free0 ! $ keep ! [] $ by ! (exits k last t-put-together))
 
-      turn-ends : (n-fine : Fine a-usize n) (k : ℕ) (low : k ≤ n) (f-s : Fine a-State (s-at k)) (f-sound : Fine a-bool (sound-at k)) (f-archive : Fine (known-array a-ArchiveLine 15) (archive-at k)) (f-log : Fine (known-array a-LogLine 250) (log-at k)) (f-audit : Fine (known-array a-AuditLine 200) (audit-at k)) (f-outputs : Fine (known-array a-Output 256) (outputs-at k)) (less : T (ltb k n)) (t-fetch-input : Fine a-Input (is-fetch-input k)) (ok-array4-fetch-input : Fine (known-array a-Input 256) inputs) (t-entry-in : Fine a-Entry (is-entry-in k)) (t-command-in : Fine a-Command (is-command-in k)) (t-seen : Fine a-Reply (is-seen k)) (ok-array8-seen : Fine (known-array a-ArchiveLine 15) (archive-at k)) (ok-array9-seen : Fine (known-array a-LogLine 250) (log-at k)) (ok-array10-seen : Fine (known-array a-AuditLine 200) (audit-at k)) (t-answer : Fine a-Answer (is-answer k)) (ok-array8-answer : Fine (known-array a-ArchiveLine 15) (is-answer-array8 k)) (ok-array9-answer : Fine (known-array a-LogLine 250) (is-answer-array9 k)) (ok-array10-answer : Fine (known-array a-AuditLine 200) (is-answer-array10 k)) (t-answered-in : Fine a-Answer (is-answered-in k)) (t-output-by : Fine a-Output (is-output-by k)) (t-put-output : Fine a-unit tt) (ok-array11-put-output : Fine (known-array a-Output 256) (is-put-output-array11 k)) (t-state-in : Fine a-State (is-state-in k)) (t-sound-by : Fine a-bool (is-sound-by k)) → Sq W (‵ (fat fullShare ty11 l11 0 ((known-array a-Output 256) .val (is-put-output-array11 k))) ∷ ‵ (fat fullShare ty10 l10 0 ((known-array a-AuditLine 200) .val (is-answer-array10 k))) ∷ ‵ (fat fullShare ty9 l9 0 ((known-array a-LogLine 250) .val (is-answer-array9 k))) ∷ ‵ (fat fullShare ty8 l8 0 ((known-array a-ArchiveLine 15) .val (is-answer-array8 k))) ∷ ‵ (fat fullShare ty4 l4 0 ((known-array a-Input 256) .val inputs)) ∷ ‵ (froom ty41 l41 0) ∷ ‵ (fdies ty41 l41) ∷ ‵ (froom ty40 l40 0) ∷ ‵ (fdies ty40 l40) ∷ ‵ (fat fullShare ty39 l39 0 (a-unit .val tt)) ∷ ‵ (fdies ty39 l39) ∷ ‵ (froom ty38 l38 0) ∷ ‵ (fdies ty38 l38) ∷ ‵ (froom ty37 l37 0) ∷ ‵ (fdies ty37 l37) ∷ ‵ (froom ty36 l36 0) ∷ ‵ (fdies ty36 l36) ∷ ‵ (froom ty35 l35 0) ∷ ‵ (fdies ty35 l35) ∷ ‵ (froom ty34 l34 0) ∷ ‵ (fdies ty34 l34) ∷ ‵ (froom ty33 l33 0) ∷ ‵ (fdies ty33 l33) ∷ ‵ (froom ty32 l32 0) ∷ ‵ (fdies ty32 l32) ∷ ‵ (froom ty31 l31 0) ∷ ‵ (fdies ty31 l31) ∷ ‵ (froom ty30 l30 0) ∷ ‵ (fdies ty30 l30) ∷ ‵ (froom ty29 l29 0) ∷ ‵ (fdies ty29 l29) ∷ ‵ (froom ty28 l28 0) ∷ ‵ (fdies ty28 l28) ∷ ‵ (froom ty27 l27 0) ∷ ‵ (fdies ty27 l27) ∷ ‵ (froom ty26 l26 0) ∷ ‵ (fdies ty26 l26) ∷ ‵ (froom ty25 l25 0) ∷ ‵ (fdies ty25 l25) ∷ ‵ (froom ty24 l24 0) ∷ ‵ (fdies ty24 l24) ∷ ‵ (froom ty23 l23 0) ∷ ‵ (fdies ty23 l23) ∷ ‵ (froom ty22 l22 0) ∷ ‵ (fdies ty22 l22) ∷ ‵ (froom ty21 l21 0) ∷ ‵ (fdies ty21 l21) ∷ ‵ (froom ty20 l20 0) ∷ ‵ (fdies ty20 l20) ∷ ‵ (fat fullShare ty19 l19 0 (a-Output .val (is-output-by k))) ∷ ‵ (fdies ty19 l19) ∷ ‵ (fat fullShare ty18 l18 0 (a-Answer .val (is-answered-in k))) ∷ ‵ (fdies ty18 l18) ∷ ‵ (fat fullShare ty17 l17 0 (a-Answer .val (is-answer k))) ∷ ‵ (fdies ty17 l17) ∷ ‵ (fat fullShare ty16 l16 0 (a-Reply .val (is-seen k))) ∷ ‵ (fdies ty16 l16) ∷ ‵ (fat fullShare ty15 l15 0 (a-Command .val (is-command-in k))) ∷ ‵ (fdies ty15 l15) ∷ ‵ (fat fullShare ty14 l14 0 (a-Entry .val (is-entry-in k))) ∷ ‵ (fdies ty14 l14) ∷ ‵ (fat fullShare ty13 l13 0 (a-Input .val (is-fetch-input k))) ∷ ‵ (fdies ty13 l13) ∷ ‵ (fat fullShare ty12 l12 0 (a-usize .val k)) ∷ ‵ (fdies ty12 l12) ∷ ‵ (fdies ty11 l11) ∷ ‵ (fdies ty10 l10) ∷ ‵ (fdies ty9 l9) ∷ ‵ (fdies ty8 l8) ∷ ‵ (fat fullShare ty7 l7 0 (a-bool .val (is-sound-by k))) ∷ ‵ (fdies ty7 l7) ∷ ‵ (fat fullShare ty6 l6 0 (a-State .val (is-state-in k))) ∷ ‵ (fdies ty6 l6) ∷ ‵ (fat fullShare ty5 l5 0 (a-usize .val n)) ∷ ‵ (fdies ty5 l5) ∷ ‵ (fdies ty4 l4) ∷ ‵ (froom ty3 l3 0) ∷ ‵ (fdies ty3 l3) ∷ ‵ (froom ty2 l2 0) ∷ ‵ (fdies ty2 l2) ∷ ‵ (froom ty1 l1 0) ∷ ‵ (fdies ty1 l1) ∷ ‵ (froom ty0 l0 0) ∷ ‵ (fdies ty0 l0) ∷ []) (runs (𝓣 .C) (𝓣 .Λ) E (rest-of (rest-of (rest-of (rest-of (rest-of (rest-of (rest-of (rest-of (rest-of (rest-of (rest-of (rest-of (rest-of (rest-of (rest-of (rest-of (rest-of (rest-of (rest-of (rest-of (rest-of (rest-of (rest-of (rest-of (rest-of (rest-of (rest-of (rest-of (M.turn-1))))))))))))))))))))))))))))) (anyQ (Turned (k, (low, (f-s, (f-sound, (f-archive, (f-log, (f-audit, f-outputs))))))))))
-      unfolding after deskAfter seenOn turnOn soundAfter outputsUpTo outputOn afterTurn
-      turn-ends n-fine k low f-s f-sound f-archive f-log f-audit f-outputs less t-fetch-input ok-array4-fetch-input t-entry-in t-command-in t-seen ok-array8-seen ok-array9-seen ok-array10-seen t-answer ok-array8-answer ok-array9-answer ok-array10-answer t-answered-in t-output-by t-put-output ok-array11-put-output t-state-in t-sound-by =
+      turn-ends : (n-fine : Fine a-usize n) (k : ℕ) (low : k ≤ n) (f-s : Fine a-State (s-at k)) (f-sound : Fine a-bool (sound-at k)) (f-archive : Fine (known-array a-ArchiveLine 15) (archive-at k)) (f-log : Fine (known-array a-LogLine 250) (log-at k)) (f-audit : Fine (known-array a-AuditLine 200) (audit-at k)) (f-responses : Fine (known-array a-Response 256) (responses-at k)) (less : T (ltb k n)) (t-fetch-input : Fine a-Input (is-fetch-input k)) (ok-array4-fetch-input : Fine (known-array a-Input 256) inputs) (t-entry-in : Fine a-Entry (is-entry-in k)) (t-command-in : Fine a-Command (is-command-in k)) (t-seen : Fine a-Reply (is-seen k)) (ok-array8-seen : Fine (known-array a-ArchiveLine 15) (archive-at k)) (ok-array9-seen : Fine (known-array a-LogLine 250) (log-at k)) (ok-array10-seen : Fine (known-array a-AuditLine 200) (audit-at k)) (t-answer : Fine a-Answer (is-answer k)) (ok-array8-answer : Fine (known-array a-ArchiveLine 15) (is-answer-array8 k)) (ok-array9-answer : Fine (known-array a-LogLine 250) (is-answer-array9 k)) (ok-array10-answer : Fine (known-array a-AuditLine 200) (is-answer-array10 k)) (t-answered-in : Fine a-Answer (is-answered-in k)) (t-response-by : Fine a-Response (is-response-by k)) (t-put-response : Fine a-unit tt) (ok-array11-put-response : Fine (known-array a-Response 256) (is-put-response-array11 k)) (t-state-in : Fine a-State (is-state-in k)) (t-sound-by : Fine a-bool (is-sound-by k)) → Sq W (‵ (fat fullShare ty11 l11 0 ((known-array a-Response 256) .val (is-put-response-array11 k))) ∷ ‵ (fat fullShare ty10 l10 0 ((known-array a-AuditLine 200) .val (is-answer-array10 k))) ∷ ‵ (fat fullShare ty9 l9 0 ((known-array a-LogLine 250) .val (is-answer-array9 k))) ∷ ‵ (fat fullShare ty8 l8 0 ((known-array a-ArchiveLine 15) .val (is-answer-array8 k))) ∷ ‵ (fat fullShare ty4 l4 0 ((known-array a-Input 256) .val inputs)) ∷ ‵ (froom ty41 l41 0) ∷ ‵ (fdies ty41 l41) ∷ ‵ (froom ty40 l40 0) ∷ ‵ (fdies ty40 l40) ∷ ‵ (fat fullShare ty39 l39 0 (a-unit .val tt)) ∷ ‵ (fdies ty39 l39) ∷ ‵ (froom ty38 l38 0) ∷ ‵ (fdies ty38 l38) ∷ ‵ (froom ty37 l37 0) ∷ ‵ (fdies ty37 l37) ∷ ‵ (froom ty36 l36 0) ∷ ‵ (fdies ty36 l36) ∷ ‵ (froom ty35 l35 0) ∷ ‵ (fdies ty35 l35) ∷ ‵ (froom ty34 l34 0) ∷ ‵ (fdies ty34 l34) ∷ ‵ (froom ty33 l33 0) ∷ ‵ (fdies ty33 l33) ∷ ‵ (froom ty32 l32 0) ∷ ‵ (fdies ty32 l32) ∷ ‵ (froom ty31 l31 0) ∷ ‵ (fdies ty31 l31) ∷ ‵ (froom ty30 l30 0) ∷ ‵ (fdies ty30 l30) ∷ ‵ (froom ty29 l29 0) ∷ ‵ (fdies ty29 l29) ∷ ‵ (froom ty28 l28 0) ∷ ‵ (fdies ty28 l28) ∷ ‵ (froom ty27 l27 0) ∷ ‵ (fdies ty27 l27) ∷ ‵ (froom ty26 l26 0) ∷ ‵ (fdies ty26 l26) ∷ ‵ (froom ty25 l25 0) ∷ ‵ (fdies ty25 l25) ∷ ‵ (froom ty24 l24 0) ∷ ‵ (fdies ty24 l24) ∷ ‵ (froom ty23 l23 0) ∷ ‵ (fdies ty23 l23) ∷ ‵ (froom ty22 l22 0) ∷ ‵ (fdies ty22 l22) ∷ ‵ (froom ty21 l21 0) ∷ ‵ (fdies ty21 l21) ∷ ‵ (froom ty20 l20 0) ∷ ‵ (fdies ty20 l20) ∷ ‵ (fat fullShare ty19 l19 0 (a-Response .val (is-response-by k))) ∷ ‵ (fdies ty19 l19) ∷ ‵ (fat fullShare ty18 l18 0 (a-Answer .val (is-answered-in k))) ∷ ‵ (fdies ty18 l18) ∷ ‵ (fat fullShare ty17 l17 0 (a-Answer .val (is-answer k))) ∷ ‵ (fdies ty17 l17) ∷ ‵ (fat fullShare ty16 l16 0 (a-Reply .val (is-seen k))) ∷ ‵ (fdies ty16 l16) ∷ ‵ (fat fullShare ty15 l15 0 (a-Command .val (is-command-in k))) ∷ ‵ (fdies ty15 l15) ∷ ‵ (fat fullShare ty14 l14 0 (a-Entry .val (is-entry-in k))) ∷ ‵ (fdies ty14 l14) ∷ ‵ (fat fullShare ty13 l13 0 (a-Input .val (is-fetch-input k))) ∷ ‵ (fdies ty13 l13) ∷ ‵ (fat fullShare ty12 l12 0 (a-usize .val k)) ∷ ‵ (fdies ty12 l12) ∷ ‵ (fdies ty11 l11) ∷ ‵ (fdies ty10 l10) ∷ ‵ (fdies ty9 l9) ∷ ‵ (fdies ty8 l8) ∷ ‵ (fat fullShare ty7 l7 0 (a-bool .val (is-sound-by k))) ∷ ‵ (fdies ty7 l7) ∷ ‵ (fat fullShare ty6 l6 0 (a-State .val (is-state-in k))) ∷ ‵ (fdies ty6 l6) ∷ ‵ (fat fullShare ty5 l5 0 (a-usize .val n)) ∷ ‵ (fdies ty5 l5) ∷ ‵ (fdies ty4 l4) ∷ ‵ (froom ty3 l3 0) ∷ ‵ (fdies ty3 l3) ∷ ‵ (froom ty2 l2 0) ∷ ‵ (fdies ty2 l2) ∷ ‵ (froom ty1 l1 0) ∷ ‵ (fdies ty1 l1) ∷ ‵ (froom ty0 l0 0) ∷ ‵ (fdies ty0 l0) ∷ []) (runs (𝓣 .C) (𝓣 .Λ) E (rest-of (rest-of (rest-of (rest-of (rest-of (rest-of (rest-of (rest-of (rest-of (rest-of (rest-of (rest-of (rest-of (rest-of (rest-of (rest-of (rest-of (rest-of (rest-of (rest-of (rest-of (rest-of (rest-of (rest-of (rest-of (rest-of (rest-of (rest-of (M.turn-1))))))))))))))))))))))))))))) (anyQ (Turned (k, (low, (f-s, (f-sound, (f-archive, (f-log, (f-audit, f-responses))))))))))
+      unfolding after deskAfter seenOn turnOn soundAfter responsesUpTo responseOn afterTurn
+      turn-ends n-fine k low f-s f-sound f-archive f-log f-audit f-responses less t-fetch-input ok-array4-fetch-input t-entry-in t-command-in t-seen ok-array8-seen ok-array9-seen ok-array10-seen t-answer ok-array8-answer ok-array9-answer ok-array10-answer t-answered-in t-response-by t-put-response ok-array11-put-response t-state-in t-sound-by =
           assigns-last ! (bin ! (load ! (from ! (stop !)) (look ! 63 refl)) (lit ! tt) (record { fits = below (k + 1) n (add-one-le (ltb→lt k n less)) (n-fine .1) })) (from ! (stop !)) (store ! 63 refl (tt, record { fits = below (k + 1) n (add-one-le (ltb→lt k n less)) (n-fine .1) })) $
           rewrite ! 63 (λ (m : ℕ). ‵ (fat fullShare ty12 l12 0 (vint w64 m))) (add-one k) refl $
           forget ! 9 refl $ forget ! 49 refl $ forget ! 51 refl $ forget ! 53 refl $ forget ! 55 refl $ forget ! 57 refl $ forget ! 59 refl $ forget ! 61 refl $
           keep ! (5 ∷ 6 ∷ 7 ∷ 8 ∷ 9 ∷ 10 ∷ 11 ∷ 12 ∷ 13 ∷ 14 ∷ 15 ∷ 16 ∷ 17 ∷ 18 ∷ 19 ∷ 20 ∷ 21 ∷ 22 ∷ 23 ∷ 24 ∷ 25 ∷ 26 ∷ 27 ∷ 28 ∷ 29 ∷ 30 ∷ 31 ∷ 32 ∷ 33 ∷ 34 ∷ 35 ∷ 36 ∷ 37 ∷ 38 ∷ 39 ∷ 40 ∷ 41 ∷ 42 ∷ 43 ∷ 44 ∷ 45 ∷ 46 ∷ 47 ∷ 48 ∷ 49 ∷ 50 ∷ 51 ∷ 52 ∷ 53 ∷ 54 ∷ 55 ∷ 56 ∷ 57 ∷ 58 ∷ 59 ∷ 60 ∷ 61 ∷ 62 ∷ 63 ∷ 64 ∷ 0 ∷ 65 ∷ 1 ∷ 66 ∷ 2 ∷ 67 ∷ 3 ∷ 68 ∷ 69 ∷ 70 ∷ 71 ∷ 72 ∷ 73 ∷ 74 ∷ 4 ∷ 75 ∷ 76 ∷ 77 ∷ 78 ∷ 79 ∷ 80 ∷ 81 ∷ 82 ∷ 83 ∷ []) $
-          again ! Nearer At (k, (low, (f-s, (f-sound, (f-archive, (f-log, (f-audit, f-outputs))))))) (suc k, (ltb→lt k n less, (t-state-in, (t-sound-by, (ok-array8-answer, (ok-array9-answer, (ok-array10-answer, ok-array11-put-output))))))) (nearer k n (ltb→lt k n less))
+          again ! Nearer At (k, (low, (f-s, (f-sound, (f-archive, (f-log, (f-audit, f-responses))))))) (suc k, (ltb→lt k n less, (t-state-in, (t-sound-by, (ok-array8-answer, (ok-array9-answer, (ok-array10-answer, ok-array11-put-response))))))) (nearer k n (ltb→lt k n less))
 
-      turn-4 : (n-fine : Fine a-usize n) (k : ℕ) (low : k ≤ n) (f-s : Fine a-State (s-at k)) (f-sound : Fine a-bool (sound-at k)) (f-archive : Fine (known-array a-ArchiveLine 15) (archive-at k)) (f-log : Fine (known-array a-LogLine 250) (log-at k)) (f-audit : Fine (known-array a-AuditLine 200) (audit-at k)) (f-outputs : Fine (known-array a-Output 256) (outputs-at k)) (less : T (ltb k n)) (t-fetch-input : Fine a-Input (is-fetch-input k)) (ok-array4-fetch-input : Fine (known-array a-Input 256) inputs) (t-entry-in : Fine a-Entry (is-entry-in k)) (t-command-in : Fine a-Command (is-command-in k)) (t-seen : Fine a-Reply (is-seen k)) (ok-array8-seen : Fine (known-array a-ArchiveLine 15) (archive-at k)) (ok-array9-seen : Fine (known-array a-LogLine 250) (log-at k)) (ok-array10-seen : Fine (known-array a-AuditLine 200) (audit-at k)) (t-answer : Fine a-Answer (is-answer k)) (ok-array8-answer : Fine (known-array a-ArchiveLine 15) (is-answer-array8 k)) (ok-array9-answer : Fine (known-array a-LogLine 250) (is-answer-array9 k)) (ok-array10-answer : Fine (known-array a-AuditLine 200) (is-answer-array10 k)) (t-answered-in : Fine a-Answer (is-answered-in k)) (t-output-by : Fine a-Output (is-output-by k)) → Sq W (‵ (fat fullShare ty10 l10 0 ((known-array a-AuditLine 200) .val (is-answer-array10 k))) ∷ ‵ (fat fullShare ty9 l9 0 ((known-array a-LogLine 250) .val (is-answer-array9 k))) ∷ ‵ (fat fullShare ty8 l8 0 ((known-array a-ArchiveLine 15) .val (is-answer-array8 k))) ∷ ‵ (fat fullShare ty4 l4 0 ((known-array a-Input 256) .val inputs)) ∷ ‵ (froom ty41 l41 0) ∷ ‵ (fdies ty41 l41) ∷ ‵ (froom ty40 l40 0) ∷ ‵ (fdies ty40 l40) ∷ ‵ (froom ty39 l39 0) ∷ ‵ (fdies ty39 l39) ∷ ‵ (froom ty38 l38 0) ∷ ‵ (fdies ty38 l38) ∷ ‵ (froom ty37 l37 0) ∷ ‵ (fdies ty37 l37) ∷ ‵ (froom ty36 l36 0) ∷ ‵ (fdies ty36 l36) ∷ ‵ (froom ty35 l35 0) ∷ ‵ (fdies ty35 l35) ∷ ‵ (froom ty34 l34 0) ∷ ‵ (fdies ty34 l34) ∷ ‵ (froom ty33 l33 0) ∷ ‵ (fdies ty33 l33) ∷ ‵ (froom ty32 l32 0) ∷ ‵ (fdies ty32 l32) ∷ ‵ (froom ty31 l31 0) ∷ ‵ (fdies ty31 l31) ∷ ‵ (froom ty30 l30 0) ∷ ‵ (fdies ty30 l30) ∷ ‵ (froom ty29 l29 0) ∷ ‵ (fdies ty29 l29) ∷ ‵ (froom ty28 l28 0) ∷ ‵ (fdies ty28 l28) ∷ ‵ (froom ty27 l27 0) ∷ ‵ (fdies ty27 l27) ∷ ‵ (froom ty26 l26 0) ∷ ‵ (fdies ty26 l26) ∷ ‵ (froom ty25 l25 0) ∷ ‵ (fdies ty25 l25) ∷ ‵ (froom ty24 l24 0) ∷ ‵ (fdies ty24 l24) ∷ ‵ (froom ty23 l23 0) ∷ ‵ (fdies ty23 l23) ∷ ‵ (froom ty22 l22 0) ∷ ‵ (fdies ty22 l22) ∷ ‵ (froom ty21 l21 0) ∷ ‵ (fdies ty21 l21) ∷ ‵ (froom ty20 l20 0) ∷ ‵ (fdies ty20 l20) ∷ ‵ (fat fullShare ty19 l19 0 (a-Output .val (is-output-by k))) ∷ ‵ (fdies ty19 l19) ∷ ‵ (fat fullShare ty18 l18 0 (a-Answer .val (is-answered-in k))) ∷ ‵ (fdies ty18 l18) ∷ ‵ (fat fullShare ty17 l17 0 (a-Answer .val (is-answer k))) ∷ ‵ (fdies ty17 l17) ∷ ‵ (fat fullShare ty16 l16 0 (a-Reply .val (is-seen k))) ∷ ‵ (fdies ty16 l16) ∷ ‵ (fat fullShare ty15 l15 0 (a-Command .val (is-command-in k))) ∷ ‵ (fdies ty15 l15) ∷ ‵ (fat fullShare ty14 l14 0 (a-Entry .val (is-entry-in k))) ∷ ‵ (fdies ty14 l14) ∷ ‵ (fat fullShare ty13 l13 0 (a-Input .val (is-fetch-input k))) ∷ ‵ (fdies ty13 l13) ∷ ‵ (fat fullShare ty12 l12 0 (a-usize .val k)) ∷ ‵ (fdies ty12 l12) ∷ ‵ (fat fullShare ty11 l11 0 ((known-array a-Output 256) .val (outputs-at k))) ∷ ‵ (fdies ty11 l11) ∷ ‵ (fdies ty10 l10) ∷ ‵ (fdies ty9 l9) ∷ ‵ (fdies ty8 l8) ∷ ‵ (fat fullShare ty7 l7 0 (a-bool .val (sound-at k))) ∷ ‵ (fdies ty7 l7) ∷ ‵ (fat fullShare ty6 l6 0 (a-State .val (s-at k))) ∷ ‵ (fdies ty6 l6) ∷ ‵ (fat fullShare ty5 l5 0 (a-usize .val n)) ∷ ‵ (fdies ty5 l5) ∷ ‵ (fdies ty4 l4) ∷ ‵ (froom ty3 l3 0) ∷ ‵ (fdies ty3 l3) ∷ ‵ (froom ty2 l2 0) ∷ ‵ (fdies ty2 l2) ∷ ‵ (froom ty1 l1 0) ∷ ‵ (fdies ty1 l1) ∷ ‵ (froom ty0 l0 0) ∷ ‵ (fdies ty0 l0) ∷ []) (runs (𝓣 .C) (𝓣 .Λ) E (rest-of (rest-of (rest-of (rest-of (rest-of (rest-of (rest-of (rest-of (rest-of (rest-of (rest-of (rest-of (rest-of (rest-of (rest-of (rest-of (rest-of (rest-of (rest-of (rest-of (rest-of (rest-of (rest-of (M.turn-1)))))))))))))))))))))))) (anyQ (Turned (k, (low, (f-s, (f-sound, (f-archive, (f-log, (f-audit, f-outputs))))))))))
-      turn-4 n-fine k low f-s f-sound f-archive f-log f-audit f-outputs less t-fetch-input ok-array4-fetch-input t-entry-in t-command-in t-seen ok-array8-seen ok-array9-seen ok-array10-seen t-answer ok-array8-answer ok-array9-answer ok-array10-answer t-answered-in t-output-by =
+      turn-4 : (n-fine : Fine a-usize n) (k : ℕ) (low : k ≤ n) (f-s : Fine a-State (s-at k)) (f-sound : Fine a-bool (sound-at k)) (f-archive : Fine (known-array a-ArchiveLine 15) (archive-at k)) (f-log : Fine (known-array a-LogLine 250) (log-at k)) (f-audit : Fine (known-array a-AuditLine 200) (audit-at k)) (f-responses : Fine (known-array a-Response 256) (responses-at k)) (less : T (ltb k n)) (t-fetch-input : Fine a-Input (is-fetch-input k)) (ok-array4-fetch-input : Fine (known-array a-Input 256) inputs) (t-entry-in : Fine a-Entry (is-entry-in k)) (t-command-in : Fine a-Command (is-command-in k)) (t-seen : Fine a-Reply (is-seen k)) (ok-array8-seen : Fine (known-array a-ArchiveLine 15) (archive-at k)) (ok-array9-seen : Fine (known-array a-LogLine 250) (log-at k)) (ok-array10-seen : Fine (known-array a-AuditLine 200) (audit-at k)) (t-answer : Fine a-Answer (is-answer k)) (ok-array8-answer : Fine (known-array a-ArchiveLine 15) (is-answer-array8 k)) (ok-array9-answer : Fine (known-array a-LogLine 250) (is-answer-array9 k)) (ok-array10-answer : Fine (known-array a-AuditLine 200) (is-answer-array10 k)) (t-answered-in : Fine a-Answer (is-answered-in k)) (t-response-by : Fine a-Response (is-response-by k)) → Sq W (‵ (fat fullShare ty10 l10 0 ((known-array a-AuditLine 200) .val (is-answer-array10 k))) ∷ ‵ (fat fullShare ty9 l9 0 ((known-array a-LogLine 250) .val (is-answer-array9 k))) ∷ ‵ (fat fullShare ty8 l8 0 ((known-array a-ArchiveLine 15) .val (is-answer-array8 k))) ∷ ‵ (fat fullShare ty4 l4 0 ((known-array a-Input 256) .val inputs)) ∷ ‵ (froom ty41 l41 0) ∷ ‵ (fdies ty41 l41) ∷ ‵ (froom ty40 l40 0) ∷ ‵ (fdies ty40 l40) ∷ ‵ (froom ty39 l39 0) ∷ ‵ (fdies ty39 l39) ∷ ‵ (froom ty38 l38 0) ∷ ‵ (fdies ty38 l38) ∷ ‵ (froom ty37 l37 0) ∷ ‵ (fdies ty37 l37) ∷ ‵ (froom ty36 l36 0) ∷ ‵ (fdies ty36 l36) ∷ ‵ (froom ty35 l35 0) ∷ ‵ (fdies ty35 l35) ∷ ‵ (froom ty34 l34 0) ∷ ‵ (fdies ty34 l34) ∷ ‵ (froom ty33 l33 0) ∷ ‵ (fdies ty33 l33) ∷ ‵ (froom ty32 l32 0) ∷ ‵ (fdies ty32 l32) ∷ ‵ (froom ty31 l31 0) ∷ ‵ (fdies ty31 l31) ∷ ‵ (froom ty30 l30 0) ∷ ‵ (fdies ty30 l30) ∷ ‵ (froom ty29 l29 0) ∷ ‵ (fdies ty29 l29) ∷ ‵ (froom ty28 l28 0) ∷ ‵ (fdies ty28 l28) ∷ ‵ (froom ty27 l27 0) ∷ ‵ (fdies ty27 l27) ∷ ‵ (froom ty26 l26 0) ∷ ‵ (fdies ty26 l26) ∷ ‵ (froom ty25 l25 0) ∷ ‵ (fdies ty25 l25) ∷ ‵ (froom ty24 l24 0) ∷ ‵ (fdies ty24 l24) ∷ ‵ (froom ty23 l23 0) ∷ ‵ (fdies ty23 l23) ∷ ‵ (froom ty22 l22 0) ∷ ‵ (fdies ty22 l22) ∷ ‵ (froom ty21 l21 0) ∷ ‵ (fdies ty21 l21) ∷ ‵ (froom ty20 l20 0) ∷ ‵ (fdies ty20 l20) ∷ ‵ (fat fullShare ty19 l19 0 (a-Response .val (is-response-by k))) ∷ ‵ (fdies ty19 l19) ∷ ‵ (fat fullShare ty18 l18 0 (a-Answer .val (is-answered-in k))) ∷ ‵ (fdies ty18 l18) ∷ ‵ (fat fullShare ty17 l17 0 (a-Answer .val (is-answer k))) ∷ ‵ (fdies ty17 l17) ∷ ‵ (fat fullShare ty16 l16 0 (a-Reply .val (is-seen k))) ∷ ‵ (fdies ty16 l16) ∷ ‵ (fat fullShare ty15 l15 0 (a-Command .val (is-command-in k))) ∷ ‵ (fdies ty15 l15) ∷ ‵ (fat fullShare ty14 l14 0 (a-Entry .val (is-entry-in k))) ∷ ‵ (fdies ty14 l14) ∷ ‵ (fat fullShare ty13 l13 0 (a-Input .val (is-fetch-input k))) ∷ ‵ (fdies ty13 l13) ∷ ‵ (fat fullShare ty12 l12 0 (a-usize .val k)) ∷ ‵ (fdies ty12 l12) ∷ ‵ (fat fullShare ty11 l11 0 ((known-array a-Response 256) .val (responses-at k))) ∷ ‵ (fdies ty11 l11) ∷ ‵ (fdies ty10 l10) ∷ ‵ (fdies ty9 l9) ∷ ‵ (fdies ty8 l8) ∷ ‵ (fat fullShare ty7 l7 0 (a-bool .val (sound-at k))) ∷ ‵ (fdies ty7 l7) ∷ ‵ (fat fullShare ty6 l6 0 (a-State .val (s-at k))) ∷ ‵ (fdies ty6 l6) ∷ ‵ (fat fullShare ty5 l5 0 (a-usize .val n)) ∷ ‵ (fdies ty5 l5) ∷ ‵ (fdies ty4 l4) ∷ ‵ (froom ty3 l3 0) ∷ ‵ (fdies ty3 l3) ∷ ‵ (froom ty2 l2 0) ∷ ‵ (fdies ty2 l2) ∷ ‵ (froom ty1 l1 0) ∷ ‵ (fdies ty1 l1) ∷ ‵ (froom ty0 l0 0) ∷ ‵ (fdies ty0 l0) ∷ []) (runs (𝓣 .C) (𝓣 .Λ) E (rest-of (rest-of (rest-of (rest-of (rest-of (rest-of (rest-of (rest-of (rest-of (rest-of (rest-of (rest-of (rest-of (rest-of (rest-of (rest-of (rest-of (rest-of (rest-of (rest-of (rest-of (rest-of (rest-of (M.turn-1)))))))))))))))))))))))) (anyQ (Turned (k, (low, (f-s, (f-sound, (f-archive, (f-log, (f-audit, f-responses))))))))))
+      turn-4 n-fine k low f-s f-sound f-archive f-log f-audit f-responses less t-fetch-input ok-array4-fetch-input t-entry-in t-command-in t-seen ok-array8-seen ok-array9-seen ok-array10-seen t-answer ok-array8-answer ok-array9-answer ok-array10-answer t-answered-in t-response-by =
           assigns ! (addr ! (from ! (stop !))) (from ! (stop !)) (init ! 6 refl (tt, tt)) $
           assigns ! (agg ! (and-then ! (load ! (from ! (stop !)) (look ! 6 refl)) (and-then ! (lit ! tt) (no-more !)))) (from ! (stop !)) (init ! 4 refl (tt, (tt, (record { fits = lit< tt }, tt)))) $
-          rewrite ! 4 (λ (m : ℕ). ‵ (fat fullShare ty41 l41 0 (sliceVal (l11, 0) m))) (sym (f-outputs .1 .0 .1)) refl $
-          lft-new ! tt (λ α11-put-output. has ! (known-array a-Output 256) (outputs-at k) f-outputs $ move ! (66 ∷ 0 ∷ []) $ use2 W (later (some (λ (γ11-put-output : GName). ‵ (MutSlice (named 0) (α11-put-output ∷ []) Output′.the-row .own (record { ptr = (l11, 0); name = γ11-put-output; now = (outputs-at k) }) ((sliceVal (l11, 0) (length (outputs-at k))) ∷ [])) ⊛ ‵ (flent (α11-put-output ∷ []) (Held Output′.the-row (length (outputs-at k)) l11 0 γ11-put-output))))) (lends-array 𝓤 H A W a-Output 256 tt (named 0) (α11-put-output ∷ []) (outputs-at k) ((known-array a-Output 256) .val (outputs-at k)) l11 (subst (Room Output′.the-row) (sym (f-outputs .1 .0 .1)) (lit< tt, lit< tt))) $ await ! tt $ pick ! (λ γ11-put-output. split ! $
+          rewrite ! 4 (λ (m : ℕ). ‵ (fat fullShare ty41 l41 0 (sliceVal (l11, 0) m))) (sym (f-responses .1 .0 .1)) refl $
+          lft-new ! tt (λ α11-put-response. has ! (known-array a-Response 256) (responses-at k) f-responses $ move ! (66 ∷ 0 ∷ []) $ use2 W (later (some (λ (γ11-put-response : GName). ‵ (MutSlice (named 0) (α11-put-response ∷ []) Response′.the-row .own (record { ptr = (l11, 0); name = γ11-put-response; now = (responses-at k) }) ((sliceVal (l11, 0) (length (responses-at k))) ∷ [])) ⊛ ‵ (flent (α11-put-response ∷ []) (Held Response′.the-row (length (responses-at k)) l11 0 γ11-put-response))))) (lends-array 𝓤 H A W a-Response 256 tt (named 0) (α11-put-response ∷ []) (responses-at k) ((known-array a-Response 256) .val (responses-at k)) l11 (subst (Room Response′.the-row) (sym (f-responses .1 .0 .1)) (lit< tt, lit< tt))) $ await ! tt $ pick ! (λ γ11-put-response. split ! $
           nothing ! $ move ! (3 ∷ 0 ∷ []) $ join ! $ move ! (1 ∷ []) $ move ! (1 ∷ 0 ∷ []) $ join ! $
-          calls-with ! fm (Says-put-output 𝓤 H A at-mem run) known-put-output (to-put-output k l11 α11-put-output γ11-put-output) ((‵ (flft (α11-put-output ∷ []) fullShare) ⊛ ‵ ftrue) ⊛ ‵ (MutSlice (named 0) (α11-put-output ∷ []) Output′.the-row .own (record { ptr = (l11, 0); name = γ11-put-output; now = (outputs-at k) }) ((sliceVal (l11, 0) (length (outputs-at k))) ∷ []))) ((‵ (flft (α11-put-output ∷ []) fullShare) ⊛ ‵ ftrue) ⊛ ‵ (fsep (fsep (finally Output′.the-row γ11-put-output (is-put-output-array11 k)) (feq ℕ (length (is-put-output-array11 k)) (length (outputs-at k)))) (fsep ftrue (fsep ftrue ftrue)))) (a-unit .val tt) _ (asks-put-output k l11 α11-put-output γ11-put-output (refl, below k n low (n-fine .1)) t-output-by) (gives-put-output k l11 α11-put-output γ11-put-output) (and-then ! (load ! (from ! (stop !)) (look ! 6 refl)) (and-then ! (load ! (from ! (stop !)) (look ! 64 refl)) (and-then ! (load ! (from ! (stop !)) (look ! 50 refl)) (no-more !)))) (λ t-put-output.
-          land ! (from ! (stop !)) (init ! 10 refl (a-unit .lawful 𝓤 H A W .typed tt _ t-put-output .0)) $
-          split ! $ split ! $ lft-end ! tt $ move ! (1 ∷ []) $ drop ! $ move ! (1 ∷ []) $ fsplit ! $ fsplit ! $ move ! (1 ∷ []) $ feqL ! (λ len-array11-put-output. move ! (1 ∷ []) $ fsplit ! $ drop ! $ fsplit ! $ drop ! $ drop ! $
-          move ! (1 ∷ 2 ∷ 0 ∷ []) $ use3 W (later (‵ (row Output′.the-row fullShare (is-put-output-array11 k) l11 0))) (array-comes-back 𝓤 H A W a-Output 256 (α11-put-output ∷ []) γ11-put-output (length (outputs-at k)) (is-put-output-array11 k) l11) $ await ! tt $ use1 W (given (Fine (known-array a-Output 256) (is-put-output-array11 k)) (‵ (fat fullShare ty11 l11 0 ((known-array a-Output 256) .val (is-put-output-array11 k))))) (array-back 𝓤 H A W a-Output 256 (is-put-output-array11 k) l11 (len-array11-put-output ∙ (f-outputs .1 .0 .1))) $ learn ! (λ ok-array11-put-output.
+          calls-with ! fm (Says-put-response 𝓤 H A at-mem run) known-put-response (to-put-response k l11 α11-put-response γ11-put-response) ((‵ (flft (α11-put-response ∷ []) fullShare) ⊛ ‵ ftrue) ⊛ ‵ (MutSlice (named 0) (α11-put-response ∷ []) Response′.the-row .own (record { ptr = (l11, 0); name = γ11-put-response; now = (responses-at k) }) ((sliceVal (l11, 0) (length (responses-at k))) ∷ []))) ((‵ (flft (α11-put-response ∷ []) fullShare) ⊛ ‵ ftrue) ⊛ ‵ (fsep (fsep (finally Response′.the-row γ11-put-response (is-put-response-array11 k)) (feq ℕ (length (is-put-response-array11 k)) (length (responses-at k)))) (fsep ftrue (fsep ftrue ftrue)))) (a-unit .val tt) _ (asks-put-response k l11 α11-put-response γ11-put-response (refl, below k n low (n-fine .1)) t-response-by) (gives-put-response k l11 α11-put-response γ11-put-response) (and-then ! (load ! (from ! (stop !)) (look ! 6 refl)) (and-then ! (load ! (from ! (stop !)) (look ! 64 refl)) (and-then ! (load ! (from ! (stop !)) (look ! 50 refl)) (no-more !)))) (λ t-put-response.
+          land ! (from ! (stop !)) (init ! 10 refl (a-unit .lawful 𝓤 H A W .typed tt _ t-put-response .0)) $
+          split ! $ split ! $ lft-end ! tt $ move ! (1 ∷ []) $ drop ! $ move ! (1 ∷ []) $ fsplit ! $ fsplit ! $ move ! (1 ∷ []) $ feqL ! (λ len-array11-put-response. move ! (1 ∷ []) $ fsplit ! $ drop ! $ fsplit ! $ drop ! $ drop ! $
+          move ! (1 ∷ 2 ∷ 0 ∷ []) $ use3 W (later (‵ (row Response′.the-row fullShare (is-put-response-array11 k) l11 0))) (array-comes-back 𝓤 H A W a-Response 256 (α11-put-response ∷ []) γ11-put-response (length (responses-at k)) (is-put-response-array11 k) l11) $ await ! tt $ use1 W (given (Fine (known-array a-Response 256) (is-put-response-array11 k)) (‵ (fat fullShare ty11 l11 0 ((known-array a-Response 256) .val (is-put-response-array11 k))))) (array-back 𝓤 H A W a-Response 256 (is-put-response-array11 k) l11 (len-array11-put-response ∙ (f-responses .1 .0 .1))) $ learn ! (λ ok-array11-put-response.
           forget ! 5 refl $ forget ! 7 refl $
           calls-value ! fm (Says-state-in 𝓤 H A at-mem run) known-state-in (to-state-in k) (a-State .val (is-state-in k)) _ (asks-state-in k t-answered-in) (gives-state-in k) (and-then ! (load ! (from ! (stop !)) (look ! 52 refl)) (no-more !)) (λ t-state-in.
           land ! (from ! (stop !)) (store ! 71 refl (a-State .lawful 𝓤 H A W .typed (is-state-in k) _ t-state-in .0)) $
           calls-value ! fm (Says-sound-by 𝓤 H A at-mem run) known-sound-by (to-sound-by k) (a-bool .val (is-sound-by k)) _ (asks-sound-by k t-entry-in f-sound) (gives-sound-by k) (and-then ! (load ! (from ! (stop !)) (look ! 60 refl)) (and-then ! (load ! (from ! (stop !)) (look ! 70 refl)) (no-more !))) (λ t-sound-by.
           land ! (from ! (stop !)) (store ! 69 refl (a-bool .lawful 𝓤 H A W .typed (is-sound-by k) _ t-sound-by .0)) $
-          turn-ends n-fine k low f-s f-sound f-archive f-log f-audit f-outputs less t-fetch-input ok-array4-fetch-input t-entry-in t-command-in t-seen ok-array8-seen ok-array9-seen ok-array10-seen t-answer ok-array8-answer ok-array9-answer ok-array10-answer t-answered-in t-output-by t-put-output ok-array11-put-output t-state-in t-sound-by)))))))
+          turn-ends n-fine k low f-s f-sound f-archive f-log f-audit f-responses less t-fetch-input ok-array4-fetch-input t-entry-in t-command-in t-seen ok-array8-seen ok-array9-seen ok-array10-seen t-answer ok-array8-answer ok-array9-answer ok-array10-answer t-answered-in t-response-by t-put-response ok-array11-put-response t-state-in t-sound-by)))))))
 
-      turn-3 : (n-fine : Fine a-usize n) (k : ℕ) (low : k ≤ n) (f-s : Fine a-State (s-at k)) (f-sound : Fine a-bool (sound-at k)) (f-archive : Fine (known-array a-ArchiveLine 15) (archive-at k)) (f-log : Fine (known-array a-LogLine 250) (log-at k)) (f-audit : Fine (known-array a-AuditLine 200) (audit-at k)) (f-outputs : Fine (known-array a-Output 256) (outputs-at k)) (less : T (ltb k n)) (t-fetch-input : Fine a-Input (is-fetch-input k)) (ok-array4-fetch-input : Fine (known-array a-Input 256) inputs) (t-entry-in : Fine a-Entry (is-entry-in k)) (t-command-in : Fine a-Command (is-command-in k)) (t-seen : Fine a-Reply (is-seen k)) (ok-array8-seen : Fine (known-array a-ArchiveLine 15) (archive-at k)) (ok-array9-seen : Fine (known-array a-LogLine 250) (log-at k)) (ok-array10-seen : Fine (known-array a-AuditLine 200) (audit-at k)) → Sq W (‵ (fat fullShare ty10 l10 0 ((known-array a-AuditLine 200) .val (audit-at k))) ∷ ‵ (fat fullShare ty9 l9 0 ((known-array a-LogLine 250) .val (log-at k))) ∷ ‵ (fat fullShare ty8 l8 0 ((known-array a-ArchiveLine 15) .val (archive-at k))) ∷ ‵ (fat fullShare ty4 l4 0 ((known-array a-Input 256) .val inputs)) ∷ ‵ (froom ty41 l41 0) ∷ ‵ (fdies ty41 l41) ∷ ‵ (froom ty40 l40 0) ∷ ‵ (fdies ty40 l40) ∷ ‵ (froom ty39 l39 0) ∷ ‵ (fdies ty39 l39) ∷ ‵ (froom ty38 l38 0) ∷ ‵ (fdies ty38 l38) ∷ ‵ (froom ty37 l37 0) ∷ ‵ (fdies ty37 l37) ∷ ‵ (froom ty36 l36 0) ∷ ‵ (fdies ty36 l36) ∷ ‵ (froom ty35 l35 0) ∷ ‵ (fdies ty35 l35) ∷ ‵ (froom ty34 l34 0) ∷ ‵ (fdies ty34 l34) ∷ ‵ (froom ty33 l33 0) ∷ ‵ (fdies ty33 l33) ∷ ‵ (froom ty32 l32 0) ∷ ‵ (fdies ty32 l32) ∷ ‵ (froom ty31 l31 0) ∷ ‵ (fdies ty31 l31) ∷ ‵ (froom ty30 l30 0) ∷ ‵ (fdies ty30 l30) ∷ ‵ (froom ty29 l29 0) ∷ ‵ (fdies ty29 l29) ∷ ‵ (froom ty28 l28 0) ∷ ‵ (fdies ty28 l28) ∷ ‵ (froom ty27 l27 0) ∷ ‵ (fdies ty27 l27) ∷ ‵ (froom ty26 l26 0) ∷ ‵ (fdies ty26 l26) ∷ ‵ (froom ty25 l25 0) ∷ ‵ (fdies ty25 l25) ∷ ‵ (froom ty24 l24 0) ∷ ‵ (fdies ty24 l24) ∷ ‵ (froom ty23 l23 0) ∷ ‵ (fdies ty23 l23) ∷ ‵ (froom ty22 l22 0) ∷ ‵ (fdies ty22 l22) ∷ ‵ (froom ty21 l21 0) ∷ ‵ (fdies ty21 l21) ∷ ‵ (froom ty20 l20 0) ∷ ‵ (fdies ty20 l20) ∷ ‵ (froom ty19 l19 0) ∷ ‵ (fdies ty19 l19) ∷ ‵ (froom ty18 l18 0) ∷ ‵ (fdies ty18 l18) ∷ ‵ (froom ty17 l17 0) ∷ ‵ (fdies ty17 l17) ∷ ‵ (fat fullShare ty16 l16 0 (a-Reply .val (is-seen k))) ∷ ‵ (fdies ty16 l16) ∷ ‵ (fat fullShare ty15 l15 0 (a-Command .val (is-command-in k))) ∷ ‵ (fdies ty15 l15) ∷ ‵ (fat fullShare ty14 l14 0 (a-Entry .val (is-entry-in k))) ∷ ‵ (fdies ty14 l14) ∷ ‵ (fat fullShare ty13 l13 0 (a-Input .val (is-fetch-input k))) ∷ ‵ (fdies ty13 l13) ∷ ‵ (fat fullShare ty12 l12 0 (a-usize .val k)) ∷ ‵ (fdies ty12 l12) ∷ ‵ (fat fullShare ty11 l11 0 ((known-array a-Output 256) .val (outputs-at k))) ∷ ‵ (fdies ty11 l11) ∷ ‵ (fdies ty10 l10) ∷ ‵ (fdies ty9 l9) ∷ ‵ (fdies ty8 l8) ∷ ‵ (fat fullShare ty7 l7 0 (a-bool .val (sound-at k))) ∷ ‵ (fdies ty7 l7) ∷ ‵ (fat fullShare ty6 l6 0 (a-State .val (s-at k))) ∷ ‵ (fdies ty6 l6) ∷ ‵ (fat fullShare ty5 l5 0 (a-usize .val n)) ∷ ‵ (fdies ty5 l5) ∷ ‵ (fdies ty4 l4) ∷ ‵ (froom ty3 l3 0) ∷ ‵ (fdies ty3 l3) ∷ ‵ (froom ty2 l2 0) ∷ ‵ (fdies ty2 l2) ∷ ‵ (froom ty1 l1 0) ∷ ‵ (fdies ty1 l1) ∷ ‵ (froom ty0 l0 0) ∷ ‵ (fdies ty0 l0) ∷ []) (runs (𝓣 .C) (𝓣 .Λ) E (rest-of (rest-of (rest-of (rest-of (rest-of (rest-of (rest-of (rest-of (rest-of (rest-of (rest-of (rest-of (rest-of (rest-of (M.turn-1))))))))))))))) (anyQ (Turned (k, (low, (f-s, (f-sound, (f-archive, (f-log, (f-audit, f-outputs))))))))))
-      turn-3 n-fine k low f-s f-sound f-archive f-log f-audit f-outputs less t-fetch-input ok-array4-fetch-input t-entry-in t-command-in t-seen ok-array8-seen ok-array9-seen ok-array10-seen =
+      turn-3 : (n-fine : Fine a-usize n) (k : ℕ) (low : k ≤ n) (f-s : Fine a-State (s-at k)) (f-sound : Fine a-bool (sound-at k)) (f-archive : Fine (known-array a-ArchiveLine 15) (archive-at k)) (f-log : Fine (known-array a-LogLine 250) (log-at k)) (f-audit : Fine (known-array a-AuditLine 200) (audit-at k)) (f-responses : Fine (known-array a-Response 256) (responses-at k)) (less : T (ltb k n)) (t-fetch-input : Fine a-Input (is-fetch-input k)) (ok-array4-fetch-input : Fine (known-array a-Input 256) inputs) (t-entry-in : Fine a-Entry (is-entry-in k)) (t-command-in : Fine a-Command (is-command-in k)) (t-seen : Fine a-Reply (is-seen k)) (ok-array8-seen : Fine (known-array a-ArchiveLine 15) (archive-at k)) (ok-array9-seen : Fine (known-array a-LogLine 250) (log-at k)) (ok-array10-seen : Fine (known-array a-AuditLine 200) (audit-at k)) → Sq W (‵ (fat fullShare ty10 l10 0 ((known-array a-AuditLine 200) .val (audit-at k))) ∷ ‵ (fat fullShare ty9 l9 0 ((known-array a-LogLine 250) .val (log-at k))) ∷ ‵ (fat fullShare ty8 l8 0 ((known-array a-ArchiveLine 15) .val (archive-at k))) ∷ ‵ (fat fullShare ty4 l4 0 ((known-array a-Input 256) .val inputs)) ∷ ‵ (froom ty41 l41 0) ∷ ‵ (fdies ty41 l41) ∷ ‵ (froom ty40 l40 0) ∷ ‵ (fdies ty40 l40) ∷ ‵ (froom ty39 l39 0) ∷ ‵ (fdies ty39 l39) ∷ ‵ (froom ty38 l38 0) ∷ ‵ (fdies ty38 l38) ∷ ‵ (froom ty37 l37 0) ∷ ‵ (fdies ty37 l37) ∷ ‵ (froom ty36 l36 0) ∷ ‵ (fdies ty36 l36) ∷ ‵ (froom ty35 l35 0) ∷ ‵ (fdies ty35 l35) ∷ ‵ (froom ty34 l34 0) ∷ ‵ (fdies ty34 l34) ∷ ‵ (froom ty33 l33 0) ∷ ‵ (fdies ty33 l33) ∷ ‵ (froom ty32 l32 0) ∷ ‵ (fdies ty32 l32) ∷ ‵ (froom ty31 l31 0) ∷ ‵ (fdies ty31 l31) ∷ ‵ (froom ty30 l30 0) ∷ ‵ (fdies ty30 l30) ∷ ‵ (froom ty29 l29 0) ∷ ‵ (fdies ty29 l29) ∷ ‵ (froom ty28 l28 0) ∷ ‵ (fdies ty28 l28) ∷ ‵ (froom ty27 l27 0) ∷ ‵ (fdies ty27 l27) ∷ ‵ (froom ty26 l26 0) ∷ ‵ (fdies ty26 l26) ∷ ‵ (froom ty25 l25 0) ∷ ‵ (fdies ty25 l25) ∷ ‵ (froom ty24 l24 0) ∷ ‵ (fdies ty24 l24) ∷ ‵ (froom ty23 l23 0) ∷ ‵ (fdies ty23 l23) ∷ ‵ (froom ty22 l22 0) ∷ ‵ (fdies ty22 l22) ∷ ‵ (froom ty21 l21 0) ∷ ‵ (fdies ty21 l21) ∷ ‵ (froom ty20 l20 0) ∷ ‵ (fdies ty20 l20) ∷ ‵ (froom ty19 l19 0) ∷ ‵ (fdies ty19 l19) ∷ ‵ (froom ty18 l18 0) ∷ ‵ (fdies ty18 l18) ∷ ‵ (froom ty17 l17 0) ∷ ‵ (fdies ty17 l17) ∷ ‵ (fat fullShare ty16 l16 0 (a-Reply .val (is-seen k))) ∷ ‵ (fdies ty16 l16) ∷ ‵ (fat fullShare ty15 l15 0 (a-Command .val (is-command-in k))) ∷ ‵ (fdies ty15 l15) ∷ ‵ (fat fullShare ty14 l14 0 (a-Entry .val (is-entry-in k))) ∷ ‵ (fdies ty14 l14) ∷ ‵ (fat fullShare ty13 l13 0 (a-Input .val (is-fetch-input k))) ∷ ‵ (fdies ty13 l13) ∷ ‵ (fat fullShare ty12 l12 0 (a-usize .val k)) ∷ ‵ (fdies ty12 l12) ∷ ‵ (fat fullShare ty11 l11 0 ((known-array a-Response 256) .val (responses-at k))) ∷ ‵ (fdies ty11 l11) ∷ ‵ (fdies ty10 l10) ∷ ‵ (fdies ty9 l9) ∷ ‵ (fdies ty8 l8) ∷ ‵ (fat fullShare ty7 l7 0 (a-bool .val (sound-at k))) ∷ ‵ (fdies ty7 l7) ∷ ‵ (fat fullShare ty6 l6 0 (a-State .val (s-at k))) ∷ ‵ (fdies ty6 l6) ∷ ‵ (fat fullShare ty5 l5 0 (a-usize .val n)) ∷ ‵ (fdies ty5 l5) ∷ ‵ (fdies ty4 l4) ∷ ‵ (froom ty3 l3 0) ∷ ‵ (fdies ty3 l3) ∷ ‵ (froom ty2 l2 0) ∷ ‵ (fdies ty2 l2) ∷ ‵ (froom ty1 l1 0) ∷ ‵ (fdies ty1 l1) ∷ ‵ (froom ty0 l0 0) ∷ ‵ (fdies ty0 l0) ∷ []) (runs (𝓣 .C) (𝓣 .Λ) E (rest-of (rest-of (rest-of (rest-of (rest-of (rest-of (rest-of (rest-of (rest-of (rest-of (rest-of (rest-of (rest-of (rest-of (M.turn-1))))))))))))))) (anyQ (Turned (k, (low, (f-s, (f-sound, (f-archive, (f-log, (f-audit, f-responses))))))))))
+      turn-3 n-fine k low f-s f-sound f-archive f-log f-audit f-responses less t-fetch-input ok-array4-fetch-input t-entry-in t-command-in t-seen ok-array8-seen ok-array9-seen ok-array10-seen =
           assigns ! (addr ! (from ! (stop !))) (from ! (stop !)) (init ! 20 refl (tt, tt)) $
           assigns ! (agg ! (and-then ! (load ! (from ! (stop !)) (look ! 20 refl)) (and-then ! (lit ! tt) (no-more !)))) (from ! (stop !)) (init ! 18 refl (tt, (tt, (record { fits = lit< tt }, tt)))) $
           assigns ! (addr ! (from ! (stop !))) (from ! (stop !)) (init ! 16 refl (tt, tt)) $
@@ -678,12 +678,12 @@ module _ {M′ : Type 1} (𝓤 : URA M′) (H : Heap 𝓤) (A : Atoms 𝓤) (W :
           forget ! 10 refl $ forget ! 12 refl $ forget ! 14 refl $ forget ! 16 refl $ forget ! 18 refl $ forget ! 20 refl $
           calls-value ! fm (Says-answered-in 𝓤 H A at-mem run) known-answered-in (to-answered-in k) (a-Answer .val (is-answered-in k)) _ (asks-answered-in k t-entry-in t-answer) (gives-answered-in k) (and-then ! (load ! (from ! (stop !)) (look ! 59 refl)) (and-then ! (load ! (from ! (stop !)) (look ! 53 refl)) (no-more !))) (λ t-answered-in.
           land ! (from ! (stop !)) (init ! 50 refl (a-Answer .lawful 𝓤 H A W .typed (is-answered-in k) _ t-answered-in .0)) $
-          calls-value ! fm (Says-output-by 𝓤 H A at-mem run) known-output-by (to-output-by k) (a-Output .val (is-output-by k)) _ (asks-output-by k t-entry-in t-answered-in) (gives-output-by k) (and-then ! (load ! (from ! (stop !)) (look ! 59 refl)) (and-then ! (load ! (from ! (stop !)) (look ! 51 refl)) (no-more !))) (λ t-output-by.
-          land ! (from ! (stop !)) (init ! 48 refl (a-Output .lawful 𝓤 H A W .typed (is-output-by k) _ t-output-by .0)) $
-          turn-4 n-fine k low f-s f-sound f-archive f-log f-audit f-outputs less t-fetch-input ok-array4-fetch-input t-entry-in t-command-in t-seen ok-array8-seen ok-array9-seen ok-array10-seen t-answer ok-array8-answer ok-array9-answer ok-array10-answer t-answered-in t-output-by)))))))))))))))
+          calls-value ! fm (Says-response-by 𝓤 H A at-mem run) known-response-by (to-response-by k) (a-Response .val (is-response-by k)) _ (asks-response-by k t-entry-in t-answered-in) (gives-response-by k) (and-then ! (load ! (from ! (stop !)) (look ! 59 refl)) (and-then ! (load ! (from ! (stop !)) (look ! 51 refl)) (no-more !))) (λ t-response-by.
+          land ! (from ! (stop !)) (init ! 48 refl (a-Response .lawful 𝓤 H A W .typed (is-response-by k) _ t-response-by .0)) $
+          turn-4 n-fine k low f-s f-sound f-archive f-log f-audit f-responses less t-fetch-input ok-array4-fetch-input t-entry-in t-command-in t-seen ok-array8-seen ok-array9-seen ok-array10-seen t-answer ok-array8-answer ok-array9-answer ok-array10-answer t-answered-in t-response-by)))))))))))))))
 
-      turn-2 : (n-fine : Fine a-usize n) (k : ℕ) (low : k ≤ n) (f-s : Fine a-State (s-at k)) (f-sound : Fine a-bool (sound-at k)) (f-archive : Fine (known-array a-ArchiveLine 15) (archive-at k)) (f-log : Fine (known-array a-LogLine 250) (log-at k)) (f-audit : Fine (known-array a-AuditLine 200) (audit-at k)) (f-outputs : Fine (known-array a-Output 256) (outputs-at k)) (less : T (ltb k n)) (t-fetch-input : Fine a-Input (is-fetch-input k)) (ok-array4-fetch-input : Fine (known-array a-Input 256) inputs) (t-entry-in : Fine a-Entry (is-entry-in k)) (t-command-in : Fine a-Command (is-command-in k)) → Sq W (‵ (fat fullShare ty4 l4 0 ((known-array a-Input 256) .val inputs)) ∷ ‵ (froom ty41 l41 0) ∷ ‵ (fdies ty41 l41) ∷ ‵ (froom ty40 l40 0) ∷ ‵ (fdies ty40 l40) ∷ ‵ (froom ty39 l39 0) ∷ ‵ (fdies ty39 l39) ∷ ‵ (froom ty38 l38 0) ∷ ‵ (fdies ty38 l38) ∷ ‵ (froom ty37 l37 0) ∷ ‵ (fdies ty37 l37) ∷ ‵ (froom ty36 l36 0) ∷ ‵ (fdies ty36 l36) ∷ ‵ (froom ty35 l35 0) ∷ ‵ (fdies ty35 l35) ∷ ‵ (froom ty34 l34 0) ∷ ‵ (fdies ty34 l34) ∷ ‵ (froom ty33 l33 0) ∷ ‵ (fdies ty33 l33) ∷ ‵ (froom ty32 l32 0) ∷ ‵ (fdies ty32 l32) ∷ ‵ (froom ty31 l31 0) ∷ ‵ (fdies ty31 l31) ∷ ‵ (froom ty30 l30 0) ∷ ‵ (fdies ty30 l30) ∷ ‵ (froom ty29 l29 0) ∷ ‵ (fdies ty29 l29) ∷ ‵ (froom ty28 l28 0) ∷ ‵ (fdies ty28 l28) ∷ ‵ (froom ty27 l27 0) ∷ ‵ (fdies ty27 l27) ∷ ‵ (froom ty26 l26 0) ∷ ‵ (fdies ty26 l26) ∷ ‵ (froom ty25 l25 0) ∷ ‵ (fdies ty25 l25) ∷ ‵ (froom ty24 l24 0) ∷ ‵ (fdies ty24 l24) ∷ ‵ (froom ty23 l23 0) ∷ ‵ (fdies ty23 l23) ∷ ‵ (froom ty22 l22 0) ∷ ‵ (fdies ty22 l22) ∷ ‵ (froom ty21 l21 0) ∷ ‵ (fdies ty21 l21) ∷ ‵ (froom ty20 l20 0) ∷ ‵ (fdies ty20 l20) ∷ ‵ (froom ty19 l19 0) ∷ ‵ (fdies ty19 l19) ∷ ‵ (froom ty18 l18 0) ∷ ‵ (fdies ty18 l18) ∷ ‵ (froom ty17 l17 0) ∷ ‵ (fdies ty17 l17) ∷ ‵ (froom ty16 l16 0) ∷ ‵ (fdies ty16 l16) ∷ ‵ (fat fullShare ty15 l15 0 (a-Command .val (is-command-in k))) ∷ ‵ (fdies ty15 l15) ∷ ‵ (fat fullShare ty14 l14 0 (a-Entry .val (is-entry-in k))) ∷ ‵ (fdies ty14 l14) ∷ ‵ (fat fullShare ty13 l13 0 (a-Input .val (is-fetch-input k))) ∷ ‵ (fdies ty13 l13) ∷ ‵ (fat fullShare ty12 l12 0 (a-usize .val k)) ∷ ‵ (fdies ty12 l12) ∷ ‵ (fat fullShare ty11 l11 0 ((known-array a-Output 256) .val (outputs-at k))) ∷ ‵ (fdies ty11 l11) ∷ ‵ (fat fullShare ty10 l10 0 ((known-array a-AuditLine 200) .val (audit-at k))) ∷ ‵ (fdies ty10 l10) ∷ ‵ (fat fullShare ty9 l9 0 ((known-array a-LogLine 250) .val (log-at k))) ∷ ‵ (fdies ty9 l9) ∷ ‵ (fat fullShare ty8 l8 0 ((known-array a-ArchiveLine 15) .val (archive-at k))) ∷ ‵ (fdies ty8 l8) ∷ ‵ (fat fullShare ty7 l7 0 (a-bool .val (sound-at k))) ∷ ‵ (fdies ty7 l7) ∷ ‵ (fat fullShare ty6 l6 0 (a-State .val (s-at k))) ∷ ‵ (fdies ty6 l6) ∷ ‵ (fat fullShare ty5 l5 0 (a-usize .val n)) ∷ ‵ (fdies ty5 l5) ∷ ‵ (fdies ty4 l4) ∷ ‵ (froom ty3 l3 0) ∷ ‵ (fdies ty3 l3) ∷ ‵ (froom ty2 l2 0) ∷ ‵ (fdies ty2 l2) ∷ ‵ (froom ty1 l1 0) ∷ ‵ (fdies ty1 l1) ∷ ‵ (froom ty0 l0 0) ∷ ‵ (fdies ty0 l0) ∷ []) (runs (𝓣 .C) (𝓣 .Λ) E (rest-of (rest-of (rest-of (rest-of (rest-of (rest-of (rest-of (M.turn-1)))))))) (anyQ (Turned (k, (low, (f-s, (f-sound, (f-archive, (f-log, (f-audit, f-outputs))))))))))
-      turn-2 n-fine k low f-s f-sound f-archive f-log f-audit f-outputs less t-fetch-input ok-array4-fetch-input t-entry-in t-command-in =
+      turn-2 : (n-fine : Fine a-usize n) (k : ℕ) (low : k ≤ n) (f-s : Fine a-State (s-at k)) (f-sound : Fine a-bool (sound-at k)) (f-archive : Fine (known-array a-ArchiveLine 15) (archive-at k)) (f-log : Fine (known-array a-LogLine 250) (log-at k)) (f-audit : Fine (known-array a-AuditLine 200) (audit-at k)) (f-responses : Fine (known-array a-Response 256) (responses-at k)) (less : T (ltb k n)) (t-fetch-input : Fine a-Input (is-fetch-input k)) (ok-array4-fetch-input : Fine (known-array a-Input 256) inputs) (t-entry-in : Fine a-Entry (is-entry-in k)) (t-command-in : Fine a-Command (is-command-in k)) → Sq W (‵ (fat fullShare ty4 l4 0 ((known-array a-Input 256) .val inputs)) ∷ ‵ (froom ty41 l41 0) ∷ ‵ (fdies ty41 l41) ∷ ‵ (froom ty40 l40 0) ∷ ‵ (fdies ty40 l40) ∷ ‵ (froom ty39 l39 0) ∷ ‵ (fdies ty39 l39) ∷ ‵ (froom ty38 l38 0) ∷ ‵ (fdies ty38 l38) ∷ ‵ (froom ty37 l37 0) ∷ ‵ (fdies ty37 l37) ∷ ‵ (froom ty36 l36 0) ∷ ‵ (fdies ty36 l36) ∷ ‵ (froom ty35 l35 0) ∷ ‵ (fdies ty35 l35) ∷ ‵ (froom ty34 l34 0) ∷ ‵ (fdies ty34 l34) ∷ ‵ (froom ty33 l33 0) ∷ ‵ (fdies ty33 l33) ∷ ‵ (froom ty32 l32 0) ∷ ‵ (fdies ty32 l32) ∷ ‵ (froom ty31 l31 0) ∷ ‵ (fdies ty31 l31) ∷ ‵ (froom ty30 l30 0) ∷ ‵ (fdies ty30 l30) ∷ ‵ (froom ty29 l29 0) ∷ ‵ (fdies ty29 l29) ∷ ‵ (froom ty28 l28 0) ∷ ‵ (fdies ty28 l28) ∷ ‵ (froom ty27 l27 0) ∷ ‵ (fdies ty27 l27) ∷ ‵ (froom ty26 l26 0) ∷ ‵ (fdies ty26 l26) ∷ ‵ (froom ty25 l25 0) ∷ ‵ (fdies ty25 l25) ∷ ‵ (froom ty24 l24 0) ∷ ‵ (fdies ty24 l24) ∷ ‵ (froom ty23 l23 0) ∷ ‵ (fdies ty23 l23) ∷ ‵ (froom ty22 l22 0) ∷ ‵ (fdies ty22 l22) ∷ ‵ (froom ty21 l21 0) ∷ ‵ (fdies ty21 l21) ∷ ‵ (froom ty20 l20 0) ∷ ‵ (fdies ty20 l20) ∷ ‵ (froom ty19 l19 0) ∷ ‵ (fdies ty19 l19) ∷ ‵ (froom ty18 l18 0) ∷ ‵ (fdies ty18 l18) ∷ ‵ (froom ty17 l17 0) ∷ ‵ (fdies ty17 l17) ∷ ‵ (froom ty16 l16 0) ∷ ‵ (fdies ty16 l16) ∷ ‵ (fat fullShare ty15 l15 0 (a-Command .val (is-command-in k))) ∷ ‵ (fdies ty15 l15) ∷ ‵ (fat fullShare ty14 l14 0 (a-Entry .val (is-entry-in k))) ∷ ‵ (fdies ty14 l14) ∷ ‵ (fat fullShare ty13 l13 0 (a-Input .val (is-fetch-input k))) ∷ ‵ (fdies ty13 l13) ∷ ‵ (fat fullShare ty12 l12 0 (a-usize .val k)) ∷ ‵ (fdies ty12 l12) ∷ ‵ (fat fullShare ty11 l11 0 ((known-array a-Response 256) .val (responses-at k))) ∷ ‵ (fdies ty11 l11) ∷ ‵ (fat fullShare ty10 l10 0 ((known-array a-AuditLine 200) .val (audit-at k))) ∷ ‵ (fdies ty10 l10) ∷ ‵ (fat fullShare ty9 l9 0 ((known-array a-LogLine 250) .val (log-at k))) ∷ ‵ (fdies ty9 l9) ∷ ‵ (fat fullShare ty8 l8 0 ((known-array a-ArchiveLine 15) .val (archive-at k))) ∷ ‵ (fdies ty8 l8) ∷ ‵ (fat fullShare ty7 l7 0 (a-bool .val (sound-at k))) ∷ ‵ (fdies ty7 l7) ∷ ‵ (fat fullShare ty6 l6 0 (a-State .val (s-at k))) ∷ ‵ (fdies ty6 l6) ∷ ‵ (fat fullShare ty5 l5 0 (a-usize .val n)) ∷ ‵ (fdies ty5 l5) ∷ ‵ (fdies ty4 l4) ∷ ‵ (froom ty3 l3 0) ∷ ‵ (fdies ty3 l3) ∷ ‵ (froom ty2 l2 0) ∷ ‵ (fdies ty2 l2) ∷ ‵ (froom ty1 l1 0) ∷ ‵ (fdies ty1 l1) ∷ ‵ (froom ty0 l0 0) ∷ ‵ (fdies ty0 l0) ∷ []) (runs (𝓣 .C) (𝓣 .Λ) E (rest-of (rest-of (rest-of (rest-of (rest-of (rest-of (rest-of (M.turn-1)))))))) (anyQ (Turned (k, (low, (f-s, (f-sound, (f-archive, (f-log, (f-audit, f-responses))))))))))
+      turn-2 n-fine k low f-s f-sound f-archive f-log f-audit f-responses less t-fetch-input ok-array4-fetch-input t-entry-in t-command-in =
           assigns ! (addr ! (from ! (stop !))) (from ! (stop !)) (init ! 29 refl (tt, tt)) $
           assigns ! (agg ! (and-then ! (load ! (from ! (stop !)) (look ! 29 refl)) (and-then ! (lit ! tt) (no-more !)))) (from ! (stop !)) (init ! 27 refl (tt, (tt, (record { fits = lit< tt }, tt)))) $
           assigns ! (addr ! (from ! (stop !))) (from ! (stop !)) (init ! 25 refl (tt, tt)) $
@@ -704,10 +704,10 @@ module _ {M′ : Type 1} (𝓤 : URA M′) (H : Heap 𝓤) (A : Atoms 𝓤) (W :
           move ! (2 ∷ 4 ∷ []) $ use2 W (later (‵ (row LogLine′.the-row fullShare (log-at k) l9 0))) (shared-comes-back 𝓤 H A W a-LogLine 250 (α9-seen ∷ []) (log-at k) l9) $ await ! tt $ use1 W (given (Fine (known-array a-LogLine 250) (log-at k)) (‵ (fat fullShare ty9 l9 0 ((known-array a-LogLine 250) .val (log-at k))))) (array-back 𝓤 H A W a-LogLine 250 (log-at k) l9 (f-log .1 .0 .1)) $ learn ! (λ ok-array9-seen.
           move ! (2 ∷ 3 ∷ []) $ use2 W (later (‵ (row AuditLine′.the-row fullShare (audit-at k) l10 0))) (shared-comes-back 𝓤 H A W a-AuditLine 200 (α10-seen ∷ []) (audit-at k) l10) $ await ! tt $ use1 W (given (Fine (known-array a-AuditLine 200) (audit-at k)) (‵ (fat fullShare ty10 l10 0 ((known-array a-AuditLine 200) .val (audit-at k))))) (array-back 𝓤 H A W a-AuditLine 200 (audit-at k) l10 (f-audit .1 .0 .1)) $ learn ! (λ ok-array10-seen.
           forget ! 22 refl $ forget ! 24 refl $ forget ! 26 refl $ forget ! 28 refl $ forget ! 30 refl $ forget ! 32 refl $
-          turn-3 n-fine k low f-s f-sound f-archive f-log f-audit f-outputs less t-fetch-input ok-array4-fetch-input t-entry-in t-command-in t-seen ok-array8-seen ok-array9-seen ok-array10-seen))))))))))
+          turn-3 n-fine k low f-s f-sound f-archive f-log f-audit f-responses less t-fetch-input ok-array4-fetch-input t-entry-in t-command-in t-seen ok-array8-seen ok-array9-seen ok-array10-seen))))))))))
 
-      turn-1 : (n-fine : Fine a-usize n) (k : ℕ) (low : k ≤ n) (f-s : Fine a-State (s-at k)) (f-sound : Fine a-bool (sound-at k)) (f-archive : Fine (known-array a-ArchiveLine 15) (archive-at k)) (f-log : Fine (known-array a-LogLine 250) (log-at k)) (f-audit : Fine (known-array a-AuditLine 200) (audit-at k)) (f-outputs : Fine (known-array a-Output 256) (outputs-at k)) (less : T (ltb k n)) → Sq W (‵ (froom ty41 l41 0) ∷ ‵ (fdies ty41 l41) ∷ ‵ (froom ty40 l40 0) ∷ ‵ (fdies ty40 l40) ∷ ‵ (froom ty39 l39 0) ∷ ‵ (fdies ty39 l39) ∷ ‵ (froom ty38 l38 0) ∷ ‵ (fdies ty38 l38) ∷ ‵ (froom ty37 l37 0) ∷ ‵ (fdies ty37 l37) ∷ ‵ (froom ty36 l36 0) ∷ ‵ (fdies ty36 l36) ∷ ‵ (froom ty35 l35 0) ∷ ‵ (fdies ty35 l35) ∷ ‵ (froom ty34 l34 0) ∷ ‵ (fdies ty34 l34) ∷ ‵ (froom ty33 l33 0) ∷ ‵ (fdies ty33 l33) ∷ ‵ (froom ty32 l32 0) ∷ ‵ (fdies ty32 l32) ∷ ‵ (froom ty31 l31 0) ∷ ‵ (fdies ty31 l31) ∷ ‵ (froom ty30 l30 0) ∷ ‵ (fdies ty30 l30) ∷ ‵ (froom ty29 l29 0) ∷ ‵ (fdies ty29 l29) ∷ ‵ (froom ty28 l28 0) ∷ ‵ (fdies ty28 l28) ∷ ‵ (froom ty27 l27 0) ∷ ‵ (fdies ty27 l27) ∷ ‵ (froom ty26 l26 0) ∷ ‵ (fdies ty26 l26) ∷ ‵ (froom ty25 l25 0) ∷ ‵ (fdies ty25 l25) ∷ ‵ (froom ty24 l24 0) ∷ ‵ (fdies ty24 l24) ∷ ‵ (froom ty23 l23 0) ∷ ‵ (fdies ty23 l23) ∷ ‵ (froom ty22 l22 0) ∷ ‵ (fdies ty22 l22) ∷ ‵ (froom ty21 l21 0) ∷ ‵ (fdies ty21 l21) ∷ ‵ (froom ty20 l20 0) ∷ ‵ (fdies ty20 l20) ∷ ‵ (froom ty19 l19 0) ∷ ‵ (fdies ty19 l19) ∷ ‵ (froom ty18 l18 0) ∷ ‵ (fdies ty18 l18) ∷ ‵ (froom ty17 l17 0) ∷ ‵ (fdies ty17 l17) ∷ ‵ (froom ty16 l16 0) ∷ ‵ (fdies ty16 l16) ∷ ‵ (froom ty15 l15 0) ∷ ‵ (fdies ty15 l15) ∷ ‵ (froom ty14 l14 0) ∷ ‵ (fdies ty14 l14) ∷ ‵ (froom ty13 l13 0) ∷ ‵ (fdies ty13 l13) ∷ ‵ (fat fullShare ty12 l12 0 (a-usize .val k)) ∷ ‵ (fdies ty12 l12) ∷ ‵ (fat fullShare ty11 l11 0 ((known-array a-Output 256) .val (outputs-at k))) ∷ ‵ (fdies ty11 l11) ∷ ‵ (fat fullShare ty10 l10 0 ((known-array a-AuditLine 200) .val (audit-at k))) ∷ ‵ (fdies ty10 l10) ∷ ‵ (fat fullShare ty9 l9 0 ((known-array a-LogLine 250) .val (log-at k))) ∷ ‵ (fdies ty9 l9) ∷ ‵ (fat fullShare ty8 l8 0 ((known-array a-ArchiveLine 15) .val (archive-at k))) ∷ ‵ (fdies ty8 l8) ∷ ‵ (fat fullShare ty7 l7 0 (a-bool .val (sound-at k))) ∷ ‵ (fdies ty7 l7) ∷ ‵ (fat fullShare ty6 l6 0 (a-State .val (s-at k))) ∷ ‵ (fdies ty6 l6) ∷ ‵ (fat fullShare ty5 l5 0 (a-usize .val n)) ∷ ‵ (fdies ty5 l5) ∷ ‵ (fat fullShare ty4 l4 0 ((known-array a-Input 256) .val inputs)) ∷ ‵ (fdies ty4 l4) ∷ ‵ (froom ty3 l3 0) ∷ ‵ (fdies ty3 l3) ∷ ‵ (froom ty2 l2 0) ∷ ‵ (fdies ty2 l2) ∷ ‵ (froom ty1 l1 0) ∷ ‵ (fdies ty1 l1) ∷ ‵ (froom ty0 l0 0) ∷ ‵ (fdies ty0 l0) ∷ []) (runs (𝓣 .C) (𝓣 .Λ) E (rest-of (rest-of (M.turn-1))) (anyQ (Turned (k, (low, (f-s, (f-sound, (f-archive, (f-log, (f-audit, f-outputs))))))))))
-      turn-1 n-fine k low f-s f-sound f-archive f-log f-audit f-outputs less =
+      turn-1 : (n-fine : Fine a-usize n) (k : ℕ) (low : k ≤ n) (f-s : Fine a-State (s-at k)) (f-sound : Fine a-bool (sound-at k)) (f-archive : Fine (known-array a-ArchiveLine 15) (archive-at k)) (f-log : Fine (known-array a-LogLine 250) (log-at k)) (f-audit : Fine (known-array a-AuditLine 200) (audit-at k)) (f-responses : Fine (known-array a-Response 256) (responses-at k)) (less : T (ltb k n)) → Sq W (‵ (froom ty41 l41 0) ∷ ‵ (fdies ty41 l41) ∷ ‵ (froom ty40 l40 0) ∷ ‵ (fdies ty40 l40) ∷ ‵ (froom ty39 l39 0) ∷ ‵ (fdies ty39 l39) ∷ ‵ (froom ty38 l38 0) ∷ ‵ (fdies ty38 l38) ∷ ‵ (froom ty37 l37 0) ∷ ‵ (fdies ty37 l37) ∷ ‵ (froom ty36 l36 0) ∷ ‵ (fdies ty36 l36) ∷ ‵ (froom ty35 l35 0) ∷ ‵ (fdies ty35 l35) ∷ ‵ (froom ty34 l34 0) ∷ ‵ (fdies ty34 l34) ∷ ‵ (froom ty33 l33 0) ∷ ‵ (fdies ty33 l33) ∷ ‵ (froom ty32 l32 0) ∷ ‵ (fdies ty32 l32) ∷ ‵ (froom ty31 l31 0) ∷ ‵ (fdies ty31 l31) ∷ ‵ (froom ty30 l30 0) ∷ ‵ (fdies ty30 l30) ∷ ‵ (froom ty29 l29 0) ∷ ‵ (fdies ty29 l29) ∷ ‵ (froom ty28 l28 0) ∷ ‵ (fdies ty28 l28) ∷ ‵ (froom ty27 l27 0) ∷ ‵ (fdies ty27 l27) ∷ ‵ (froom ty26 l26 0) ∷ ‵ (fdies ty26 l26) ∷ ‵ (froom ty25 l25 0) ∷ ‵ (fdies ty25 l25) ∷ ‵ (froom ty24 l24 0) ∷ ‵ (fdies ty24 l24) ∷ ‵ (froom ty23 l23 0) ∷ ‵ (fdies ty23 l23) ∷ ‵ (froom ty22 l22 0) ∷ ‵ (fdies ty22 l22) ∷ ‵ (froom ty21 l21 0) ∷ ‵ (fdies ty21 l21) ∷ ‵ (froom ty20 l20 0) ∷ ‵ (fdies ty20 l20) ∷ ‵ (froom ty19 l19 0) ∷ ‵ (fdies ty19 l19) ∷ ‵ (froom ty18 l18 0) ∷ ‵ (fdies ty18 l18) ∷ ‵ (froom ty17 l17 0) ∷ ‵ (fdies ty17 l17) ∷ ‵ (froom ty16 l16 0) ∷ ‵ (fdies ty16 l16) ∷ ‵ (froom ty15 l15 0) ∷ ‵ (fdies ty15 l15) ∷ ‵ (froom ty14 l14 0) ∷ ‵ (fdies ty14 l14) ∷ ‵ (froom ty13 l13 0) ∷ ‵ (fdies ty13 l13) ∷ ‵ (fat fullShare ty12 l12 0 (a-usize .val k)) ∷ ‵ (fdies ty12 l12) ∷ ‵ (fat fullShare ty11 l11 0 ((known-array a-Response 256) .val (responses-at k))) ∷ ‵ (fdies ty11 l11) ∷ ‵ (fat fullShare ty10 l10 0 ((known-array a-AuditLine 200) .val (audit-at k))) ∷ ‵ (fdies ty10 l10) ∷ ‵ (fat fullShare ty9 l9 0 ((known-array a-LogLine 250) .val (log-at k))) ∷ ‵ (fdies ty9 l9) ∷ ‵ (fat fullShare ty8 l8 0 ((known-array a-ArchiveLine 15) .val (archive-at k))) ∷ ‵ (fdies ty8 l8) ∷ ‵ (fat fullShare ty7 l7 0 (a-bool .val (sound-at k))) ∷ ‵ (fdies ty7 l7) ∷ ‵ (fat fullShare ty6 l6 0 (a-State .val (s-at k))) ∷ ‵ (fdies ty6 l6) ∷ ‵ (fat fullShare ty5 l5 0 (a-usize .val n)) ∷ ‵ (fdies ty5 l5) ∷ ‵ (fat fullShare ty4 l4 0 ((known-array a-Input 256) .val inputs)) ∷ ‵ (fdies ty4 l4) ∷ ‵ (froom ty3 l3 0) ∷ ‵ (fdies ty3 l3) ∷ ‵ (froom ty2 l2 0) ∷ ‵ (fdies ty2 l2) ∷ ‵ (froom ty1 l1 0) ∷ ‵ (fdies ty1 l1) ∷ ‵ (froom ty0 l0 0) ∷ ‵ (fdies ty0 l0) ∷ []) (runs (𝓣 .C) (𝓣 .Λ) E (rest-of (rest-of (M.turn-1))) (anyQ (Turned (k, (low, (f-s, (f-sound, (f-archive, (f-log, (f-audit, f-responses))))))))))
+      turn-1 n-fine k low f-s f-sound f-archive f-log f-audit f-responses less =
           assigns ! (addr ! (from ! (stop !))) (from ! (stop !)) (init ! 32 refl (tt, tt)) $
           assigns ! (agg ! (and-then ! (load ! (from ! (stop !)) (look ! 32 refl)) (and-then ! (lit ! tt) (no-more !)))) (from ! (stop !)) (init ! 30 refl (tt, (tt, (record { fits = lit< tt }, tt)))) $
           rewrite ! 30 (λ (m : ℕ). ‵ (fat fullShare ty26 l26 0 (sliceVal (l4, 0) m))) (sym (inputs-fine .1 .0 .1)) refl $
@@ -722,26 +722,26 @@ module _ {M′ : Type 1} (𝓤 : URA M′) (H : Heap 𝓤) (A : Atoms 𝓤) (W :
           land ! (from ! (stop !)) (init ! 55 refl (a-Entry .lawful 𝓤 H A W .typed (is-entry-in k) _ t-entry-in .0)) $
           calls-value ! fm (Says-command-in 𝓤 H A at-mem run) known-command-in (to-command-in k) (a-Command .val (is-command-in k)) _ (asks-command-in k t-entry-in) (gives-command-in k) (and-then ! (load ! (from ! (stop !)) (look ! 56 refl)) (no-more !)) (λ t-command-in.
           land ! (from ! (stop !)) (init ! 53 refl (a-Command .lawful 𝓤 H A W .typed (is-command-in k) _ t-command-in .0)) $
-          turn-2 n-fine k low f-s f-sound f-archive f-log f-audit f-outputs less t-fetch-input ok-array4-fetch-input t-entry-in t-command-in))))))
+          turn-2 n-fine k low f-s f-sound f-archive f-log f-audit f-responses less t-fetch-input ok-array4-fetch-input t-entry-in t-command-in))))))
 
-      taken : (n-fine : Fine a-usize n) (k : ℕ) (low : k ≤ n) (f-s : Fine a-State (s-at k)) (f-sound : Fine a-bool (sound-at k)) (f-archive : Fine (known-array a-ArchiveLine 15) (archive-at k)) (f-log : Fine (known-array a-LogLine 250) (log-at k)) (f-audit : Fine (known-array a-AuditLine 200) (audit-at k)) (f-outputs : Fine (known-array a-Output 256) (outputs-at k)) (less : T (ltb k n)) → Sq W (‵ (froom ty41 l41 0) ∷ ‵ (fdies ty41 l41) ∷ ‵ (froom ty40 l40 0) ∷ ‵ (fdies ty40 l40) ∷ ‵ (froom ty39 l39 0) ∷ ‵ (fdies ty39 l39) ∷ ‵ (froom ty38 l38 0) ∷ ‵ (fdies ty38 l38) ∷ ‵ (froom ty37 l37 0) ∷ ‵ (fdies ty37 l37) ∷ ‵ (froom ty36 l36 0) ∷ ‵ (fdies ty36 l36) ∷ ‵ (froom ty35 l35 0) ∷ ‵ (fdies ty35 l35) ∷ ‵ (froom ty34 l34 0) ∷ ‵ (fdies ty34 l34) ∷ ‵ (froom ty33 l33 0) ∷ ‵ (fdies ty33 l33) ∷ ‵ (froom ty32 l32 0) ∷ ‵ (fdies ty32 l32) ∷ ‵ (froom ty31 l31 0) ∷ ‵ (fdies ty31 l31) ∷ ‵ (froom ty30 l30 0) ∷ ‵ (fdies ty30 l30) ∷ ‵ (froom ty29 l29 0) ∷ ‵ (fdies ty29 l29) ∷ ‵ (froom ty28 l28 0) ∷ ‵ (fdies ty28 l28) ∷ ‵ (froom ty27 l27 0) ∷ ‵ (fdies ty27 l27) ∷ ‵ (froom ty26 l26 0) ∷ ‵ (fdies ty26 l26) ∷ ‵ (froom ty25 l25 0) ∷ ‵ (fdies ty25 l25) ∷ ‵ (fat fullShare ty24 l24 0 (a-bool .val (ltb k n))) ∷ ‵ (fdies ty24 l24) ∷ ‵ (froom ty23 l23 0) ∷ ‵ (fdies ty23 l23) ∷ ‵ (froom ty22 l22 0) ∷ ‵ (fdies ty22 l22) ∷ ‵ (froom ty21 l21 0) ∷ ‵ (fdies ty21 l21) ∷ ‵ (froom ty20 l20 0) ∷ ‵ (fdies ty20 l20) ∷ ‵ (froom ty19 l19 0) ∷ ‵ (fdies ty19 l19) ∷ ‵ (froom ty18 l18 0) ∷ ‵ (fdies ty18 l18) ∷ ‵ (froom ty17 l17 0) ∷ ‵ (fdies ty17 l17) ∷ ‵ (froom ty16 l16 0) ∷ ‵ (fdies ty16 l16) ∷ ‵ (froom ty15 l15 0) ∷ ‵ (fdies ty15 l15) ∷ ‵ (froom ty14 l14 0) ∷ ‵ (fdies ty14 l14) ∷ ‵ (froom ty13 l13 0) ∷ ‵ (fdies ty13 l13) ∷ ‵ (fat fullShare ty12 l12 0 (a-usize .val k)) ∷ ‵ (fdies ty12 l12) ∷ ‵ (fat fullShare ty11 l11 0 ((known-array a-Output 256) .val (outputs-at k))) ∷ ‵ (fdies ty11 l11) ∷ ‵ (fat fullShare ty10 l10 0 ((known-array a-AuditLine 200) .val (audit-at k))) ∷ ‵ (fdies ty10 l10) ∷ ‵ (fat fullShare ty9 l9 0 ((known-array a-LogLine 250) .val (log-at k))) ∷ ‵ (fdies ty9 l9) ∷ ‵ (fat fullShare ty8 l8 0 ((known-array a-ArchiveLine 15) .val (archive-at k))) ∷ ‵ (fdies ty8 l8) ∷ ‵ (fat fullShare ty7 l7 0 (a-bool .val (sound-at k))) ∷ ‵ (fdies ty7 l7) ∷ ‵ (fat fullShare ty6 l6 0 (a-State .val (s-at k))) ∷ ‵ (fdies ty6 l6) ∷ ‵ (fat fullShare ty5 l5 0 (a-usize .val n)) ∷ ‵ (fdies ty5 l5) ∷ ‵ (fat fullShare ty4 l4 0 ((known-array a-Input 256) .val inputs)) ∷ ‵ (fdies ty4 l4) ∷ ‵ (froom ty3 l3 0) ∷ ‵ (fdies ty3 l3) ∷ ‵ (froom ty2 l2 0) ∷ ‵ (fdies ty2 l2) ∷ ‵ (froom ty1 l1 0) ∷ ‵ (fdies ty1 l1) ∷ ‵ (froom ty0 l0 0) ∷ ‵ (fdies ty0 l0) ∷ []) (runs (𝓣 .C) (𝓣 .Λ) E (rest-of (rest-of (M.turn-1))) (anyQ (Turned (k, (low, (f-s, (f-sound, (f-archive, (f-log, (f-audit, f-outputs))))))))))
-      taken n-fine k low f-s f-sound f-archive f-log f-audit f-outputs less =
+      taken : (n-fine : Fine a-usize n) (k : ℕ) (low : k ≤ n) (f-s : Fine a-State (s-at k)) (f-sound : Fine a-bool (sound-at k)) (f-archive : Fine (known-array a-ArchiveLine 15) (archive-at k)) (f-log : Fine (known-array a-LogLine 250) (log-at k)) (f-audit : Fine (known-array a-AuditLine 200) (audit-at k)) (f-responses : Fine (known-array a-Response 256) (responses-at k)) (less : T (ltb k n)) → Sq W (‵ (froom ty41 l41 0) ∷ ‵ (fdies ty41 l41) ∷ ‵ (froom ty40 l40 0) ∷ ‵ (fdies ty40 l40) ∷ ‵ (froom ty39 l39 0) ∷ ‵ (fdies ty39 l39) ∷ ‵ (froom ty38 l38 0) ∷ ‵ (fdies ty38 l38) ∷ ‵ (froom ty37 l37 0) ∷ ‵ (fdies ty37 l37) ∷ ‵ (froom ty36 l36 0) ∷ ‵ (fdies ty36 l36) ∷ ‵ (froom ty35 l35 0) ∷ ‵ (fdies ty35 l35) ∷ ‵ (froom ty34 l34 0) ∷ ‵ (fdies ty34 l34) ∷ ‵ (froom ty33 l33 0) ∷ ‵ (fdies ty33 l33) ∷ ‵ (froom ty32 l32 0) ∷ ‵ (fdies ty32 l32) ∷ ‵ (froom ty31 l31 0) ∷ ‵ (fdies ty31 l31) ∷ ‵ (froom ty30 l30 0) ∷ ‵ (fdies ty30 l30) ∷ ‵ (froom ty29 l29 0) ∷ ‵ (fdies ty29 l29) ∷ ‵ (froom ty28 l28 0) ∷ ‵ (fdies ty28 l28) ∷ ‵ (froom ty27 l27 0) ∷ ‵ (fdies ty27 l27) ∷ ‵ (froom ty26 l26 0) ∷ ‵ (fdies ty26 l26) ∷ ‵ (froom ty25 l25 0) ∷ ‵ (fdies ty25 l25) ∷ ‵ (fat fullShare ty24 l24 0 (a-bool .val (ltb k n))) ∷ ‵ (fdies ty24 l24) ∷ ‵ (froom ty23 l23 0) ∷ ‵ (fdies ty23 l23) ∷ ‵ (froom ty22 l22 0) ∷ ‵ (fdies ty22 l22) ∷ ‵ (froom ty21 l21 0) ∷ ‵ (fdies ty21 l21) ∷ ‵ (froom ty20 l20 0) ∷ ‵ (fdies ty20 l20) ∷ ‵ (froom ty19 l19 0) ∷ ‵ (fdies ty19 l19) ∷ ‵ (froom ty18 l18 0) ∷ ‵ (fdies ty18 l18) ∷ ‵ (froom ty17 l17 0) ∷ ‵ (fdies ty17 l17) ∷ ‵ (froom ty16 l16 0) ∷ ‵ (fdies ty16 l16) ∷ ‵ (froom ty15 l15 0) ∷ ‵ (fdies ty15 l15) ∷ ‵ (froom ty14 l14 0) ∷ ‵ (fdies ty14 l14) ∷ ‵ (froom ty13 l13 0) ∷ ‵ (fdies ty13 l13) ∷ ‵ (fat fullShare ty12 l12 0 (a-usize .val k)) ∷ ‵ (fdies ty12 l12) ∷ ‵ (fat fullShare ty11 l11 0 ((known-array a-Response 256) .val (responses-at k))) ∷ ‵ (fdies ty11 l11) ∷ ‵ (fat fullShare ty10 l10 0 ((known-array a-AuditLine 200) .val (audit-at k))) ∷ ‵ (fdies ty10 l10) ∷ ‵ (fat fullShare ty9 l9 0 ((known-array a-LogLine 250) .val (log-at k))) ∷ ‵ (fdies ty9 l9) ∷ ‵ (fat fullShare ty8 l8 0 ((known-array a-ArchiveLine 15) .val (archive-at k))) ∷ ‵ (fdies ty8 l8) ∷ ‵ (fat fullShare ty7 l7 0 (a-bool .val (sound-at k))) ∷ ‵ (fdies ty7 l7) ∷ ‵ (fat fullShare ty6 l6 0 (a-State .val (s-at k))) ∷ ‵ (fdies ty6 l6) ∷ ‵ (fat fullShare ty5 l5 0 (a-usize .val n)) ∷ ‵ (fdies ty5 l5) ∷ ‵ (fat fullShare ty4 l4 0 ((known-array a-Input 256) .val inputs)) ∷ ‵ (fdies ty4 l4) ∷ ‵ (froom ty3 l3 0) ∷ ‵ (fdies ty3 l3) ∷ ‵ (froom ty2 l2 0) ∷ ‵ (fdies ty2 l2) ∷ ‵ (froom ty1 l1 0) ∷ ‵ (fdies ty1 l1) ∷ ‵ (froom ty0 l0 0) ∷ ‵ (fdies ty0 l0) ∷ []) (runs (𝓣 .C) (𝓣 .Λ) E (rest-of (rest-of (M.turn-1))) (anyQ (Turned (k, (low, (f-s, (f-sound, (f-archive, (f-log, (f-audit, f-responses))))))))))
+      taken n-fine k low f-s f-sound f-archive f-log f-audit f-responses less =
           forget ! 34 refl $
-          turn-1 n-fine k low f-s f-sound f-archive f-log f-audit f-outputs less
+          turn-1 n-fine k low f-s f-sound f-archive f-log f-audit f-responses less
 
-      turn : (n-fine : Fine a-usize n) (k : ℕ) (low : k ≤ n) (f-s : Fine a-State (s-at k)) (f-sound : Fine a-bool (sound-at k)) (f-archive : Fine (known-array a-ArchiveLine 15) (archive-at k)) (f-log : Fine (known-array a-LogLine 250) (log-at k)) (f-audit : Fine (known-array a-AuditLine 200) (audit-at k)) (f-outputs : Fine (known-array a-Output 256) (outputs-at k)) → Sq W (‵ (froom ty41 l41 0) ∷ ‵ (fdies ty41 l41) ∷ ‵ (froom ty40 l40 0) ∷ ‵ (fdies ty40 l40) ∷ ‵ (froom ty39 l39 0) ∷ ‵ (fdies ty39 l39) ∷ ‵ (froom ty38 l38 0) ∷ ‵ (fdies ty38 l38) ∷ ‵ (froom ty37 l37 0) ∷ ‵ (fdies ty37 l37) ∷ ‵ (froom ty36 l36 0) ∷ ‵ (fdies ty36 l36) ∷ ‵ (froom ty35 l35 0) ∷ ‵ (fdies ty35 l35) ∷ ‵ (froom ty34 l34 0) ∷ ‵ (fdies ty34 l34) ∷ ‵ (froom ty33 l33 0) ∷ ‵ (fdies ty33 l33) ∷ ‵ (froom ty32 l32 0) ∷ ‵ (fdies ty32 l32) ∷ ‵ (froom ty31 l31 0) ∷ ‵ (fdies ty31 l31) ∷ ‵ (froom ty30 l30 0) ∷ ‵ (fdies ty30 l30) ∷ ‵ (froom ty29 l29 0) ∷ ‵ (fdies ty29 l29) ∷ ‵ (froom ty28 l28 0) ∷ ‵ (fdies ty28 l28) ∷ ‵ (froom ty27 l27 0) ∷ ‵ (fdies ty27 l27) ∷ ‵ (froom ty26 l26 0) ∷ ‵ (fdies ty26 l26) ∷ ‵ (froom ty25 l25 0) ∷ ‵ (fdies ty25 l25) ∷ ‵ (froom ty24 l24 0) ∷ ‵ (fdies ty24 l24) ∷ ‵ (froom ty23 l23 0) ∷ ‵ (fdies ty23 l23) ∷ ‵ (froom ty22 l22 0) ∷ ‵ (fdies ty22 l22) ∷ ‵ (froom ty21 l21 0) ∷ ‵ (fdies ty21 l21) ∷ ‵ (froom ty20 l20 0) ∷ ‵ (fdies ty20 l20) ∷ ‵ (froom ty19 l19 0) ∷ ‵ (fdies ty19 l19) ∷ ‵ (froom ty18 l18 0) ∷ ‵ (fdies ty18 l18) ∷ ‵ (froom ty17 l17 0) ∷ ‵ (fdies ty17 l17) ∷ ‵ (froom ty16 l16 0) ∷ ‵ (fdies ty16 l16) ∷ ‵ (froom ty15 l15 0) ∷ ‵ (fdies ty15 l15) ∷ ‵ (froom ty14 l14 0) ∷ ‵ (fdies ty14 l14) ∷ ‵ (froom ty13 l13 0) ∷ ‵ (fdies ty13 l13) ∷ ‵ (fat fullShare ty12 l12 0 (a-usize .val k)) ∷ ‵ (fdies ty12 l12) ∷ ‵ (fat fullShare ty11 l11 0 ((known-array a-Output 256) .val (outputs-at k))) ∷ ‵ (fdies ty11 l11) ∷ ‵ (fat fullShare ty10 l10 0 ((known-array a-AuditLine 200) .val (audit-at k))) ∷ ‵ (fdies ty10 l10) ∷ ‵ (fat fullShare ty9 l9 0 ((known-array a-LogLine 250) .val (log-at k))) ∷ ‵ (fdies ty9 l9) ∷ ‵ (fat fullShare ty8 l8 0 ((known-array a-ArchiveLine 15) .val (archive-at k))) ∷ ‵ (fdies ty8 l8) ∷ ‵ (fat fullShare ty7 l7 0 (a-bool .val (sound-at k))) ∷ ‵ (fdies ty7 l7) ∷ ‵ (fat fullShare ty6 l6 0 (a-State .val (s-at k))) ∷ ‵ (fdies ty6 l6) ∷ ‵ (fat fullShare ty5 l5 0 (a-usize .val n)) ∷ ‵ (fdies ty5 l5) ∷ ‵ (fat fullShare ty4 l4 0 ((known-array a-Input 256) .val inputs)) ∷ ‵ (fdies ty4 l4) ∷ ‵ (froom ty3 l3 0) ∷ ‵ (fdies ty3 l3) ∷ ‵ (froom ty2 l2 0) ∷ ‵ (fdies ty2 l2) ∷ ‵ (froom ty1 l1 0) ∷ ‵ (fdies ty1 l1) ∷ ‵ (froom ty0 l0 0) ∷ ‵ (fdies ty0 l0) ∷ []) (runs (𝓣 .C) (𝓣 .Λ) E M.turn-1 (anyQ (Turned (k, (low, (f-s, (f-sound, (f-archive, (f-log, (f-audit, f-outputs))))))))))
+      turn : (n-fine : Fine a-usize n) (k : ℕ) (low : k ≤ n) (f-s : Fine a-State (s-at k)) (f-sound : Fine a-bool (sound-at k)) (f-archive : Fine (known-array a-ArchiveLine 15) (archive-at k)) (f-log : Fine (known-array a-LogLine 250) (log-at k)) (f-audit : Fine (known-array a-AuditLine 200) (audit-at k)) (f-responses : Fine (known-array a-Response 256) (responses-at k)) → Sq W (‵ (froom ty41 l41 0) ∷ ‵ (fdies ty41 l41) ∷ ‵ (froom ty40 l40 0) ∷ ‵ (fdies ty40 l40) ∷ ‵ (froom ty39 l39 0) ∷ ‵ (fdies ty39 l39) ∷ ‵ (froom ty38 l38 0) ∷ ‵ (fdies ty38 l38) ∷ ‵ (froom ty37 l37 0) ∷ ‵ (fdies ty37 l37) ∷ ‵ (froom ty36 l36 0) ∷ ‵ (fdies ty36 l36) ∷ ‵ (froom ty35 l35 0) ∷ ‵ (fdies ty35 l35) ∷ ‵ (froom ty34 l34 0) ∷ ‵ (fdies ty34 l34) ∷ ‵ (froom ty33 l33 0) ∷ ‵ (fdies ty33 l33) ∷ ‵ (froom ty32 l32 0) ∷ ‵ (fdies ty32 l32) ∷ ‵ (froom ty31 l31 0) ∷ ‵ (fdies ty31 l31) ∷ ‵ (froom ty30 l30 0) ∷ ‵ (fdies ty30 l30) ∷ ‵ (froom ty29 l29 0) ∷ ‵ (fdies ty29 l29) ∷ ‵ (froom ty28 l28 0) ∷ ‵ (fdies ty28 l28) ∷ ‵ (froom ty27 l27 0) ∷ ‵ (fdies ty27 l27) ∷ ‵ (froom ty26 l26 0) ∷ ‵ (fdies ty26 l26) ∷ ‵ (froom ty25 l25 0) ∷ ‵ (fdies ty25 l25) ∷ ‵ (froom ty24 l24 0) ∷ ‵ (fdies ty24 l24) ∷ ‵ (froom ty23 l23 0) ∷ ‵ (fdies ty23 l23) ∷ ‵ (froom ty22 l22 0) ∷ ‵ (fdies ty22 l22) ∷ ‵ (froom ty21 l21 0) ∷ ‵ (fdies ty21 l21) ∷ ‵ (froom ty20 l20 0) ∷ ‵ (fdies ty20 l20) ∷ ‵ (froom ty19 l19 0) ∷ ‵ (fdies ty19 l19) ∷ ‵ (froom ty18 l18 0) ∷ ‵ (fdies ty18 l18) ∷ ‵ (froom ty17 l17 0) ∷ ‵ (fdies ty17 l17) ∷ ‵ (froom ty16 l16 0) ∷ ‵ (fdies ty16 l16) ∷ ‵ (froom ty15 l15 0) ∷ ‵ (fdies ty15 l15) ∷ ‵ (froom ty14 l14 0) ∷ ‵ (fdies ty14 l14) ∷ ‵ (froom ty13 l13 0) ∷ ‵ (fdies ty13 l13) ∷ ‵ (fat fullShare ty12 l12 0 (a-usize .val k)) ∷ ‵ (fdies ty12 l12) ∷ ‵ (fat fullShare ty11 l11 0 ((known-array a-Response 256) .val (responses-at k))) ∷ ‵ (fdies ty11 l11) ∷ ‵ (fat fullShare ty10 l10 0 ((known-array a-AuditLine 200) .val (audit-at k))) ∷ ‵ (fdies ty10 l10) ∷ ‵ (fat fullShare ty9 l9 0 ((known-array a-LogLine 250) .val (log-at k))) ∷ ‵ (fdies ty9 l9) ∷ ‵ (fat fullShare ty8 l8 0 ((known-array a-ArchiveLine 15) .val (archive-at k))) ∷ ‵ (fdies ty8 l8) ∷ ‵ (fat fullShare ty7 l7 0 (a-bool .val (sound-at k))) ∷ ‵ (fdies ty7 l7) ∷ ‵ (fat fullShare ty6 l6 0 (a-State .val (s-at k))) ∷ ‵ (fdies ty6 l6) ∷ ‵ (fat fullShare ty5 l5 0 (a-usize .val n)) ∷ ‵ (fdies ty5 l5) ∷ ‵ (fat fullShare ty4 l4 0 ((known-array a-Input 256) .val inputs)) ∷ ‵ (fdies ty4 l4) ∷ ‵ (froom ty3 l3 0) ∷ ‵ (fdies ty3 l3) ∷ ‵ (froom ty2 l2 0) ∷ ‵ (fdies ty2 l2) ∷ ‵ (froom ty1 l1 0) ∷ ‵ (fdies ty1 l1) ∷ ‵ (froom ty0 l0 0) ∷ ‵ (fdies ty0 l0) ∷ []) (runs (𝓣 .C) (𝓣 .Λ) E M.turn-1 (anyQ (Turned (k, (low, (f-s, (f-sound, (f-archive, (f-log, (f-audit, f-responses))))))))))
       unfolding afterTurn
-      turn n-fine k low f-s f-sound f-archive f-log f-audit f-outputs =
+      turn n-fine k low f-s f-sound f-archive f-log f-audit f-responses =
           assigns ! (bin ! (load ! (from ! (stop !)) (look ! 58 refl)) (load ! (from ! (stop !)) (look ! 72 refl)) tt) (from ! (stop !)) (init ! 34 refl (tt, tt)) $
           first ! $ branches ! (load ! (from ! (stop !)) (look ! 34 refl))
-          (λ less. skips ! $ exec ! (𝓣 .C) (𝓣 .Λ) E (rest-of (rest-of (M.turn-1))) (anyQ (Turned (k, (low, (f-s, (f-sound, (f-archive, (f-log, (f-audit, f-outputs))))))))) $ taken n-fine k low f-s f-sound f-archive f-log f-audit f-outputs less)
-          (λ over. jumps ! $ exec ! (𝓣 .C) (𝓣 .Λ) E M.t-15 (atRet E Post) $ left-loop n-fine k low f-s f-sound f-archive f-log f-audit f-outputs (le-antisymm low (nltb→le k n over)))
+          (λ less. skips ! $ exec ! (𝓣 .C) (𝓣 .Λ) E (rest-of (rest-of (M.turn-1))) (anyQ (Turned (k, (low, (f-s, (f-sound, (f-archive, (f-log, (f-audit, f-responses))))))))) $ taken n-fine k low f-s f-sound f-archive f-log f-audit f-responses less)
+          (λ over. jumps ! $ exec ! (𝓣 .C) (𝓣 .Λ) E M.t-15 (atRet E Post) $ left-loop n-fine k low f-s f-sound f-archive f-log f-audit f-responses (le-antisymm low (nltb→le k n over)))
 
       turns : Fine a-usize n → (i : Upto) → Sq W (At i) (runs (𝓣 .C) (𝓣 .Λ) E M.turn-1 (anyQ (Turned i)))
       turns n-fine i = turn n-fine (i .0) (i .1 .0) (i .1 .1 .0) (i .1 .1 .1 .0) (i .1 .1 .1 .1 .0) (i .1 .1 .1 .1 .1 .0) (i .1 .1 .1 .1 .1 .1 .0) (i .1 .1 .1 .1 .1 .1 .1)
 
       from-0 : Sq W (‵ (froom ty41 l41 0) ∷ ‵ (fdies ty41 l41) ∷ ‵ (froom ty40 l40 0) ∷ ‵ (fdies ty40 l40) ∷ ‵ (froom ty39 l39 0) ∷ ‵ (fdies ty39 l39) ∷ ‵ (froom ty38 l38 0) ∷ ‵ (fdies ty38 l38) ∷ ‵ (froom ty37 l37 0) ∷ ‵ (fdies ty37 l37) ∷ ‵ (froom ty36 l36 0) ∷ ‵ (fdies ty36 l36) ∷ ‵ (froom ty35 l35 0) ∷ ‵ (fdies ty35 l35) ∷ ‵ (froom ty34 l34 0) ∷ ‵ (fdies ty34 l34) ∷ ‵ (froom ty33 l33 0) ∷ ‵ (fdies ty33 l33) ∷ ‵ (froom ty32 l32 0) ∷ ‵ (fdies ty32 l32) ∷ ‵ (froom ty31 l31 0) ∷ ‵ (fdies ty31 l31) ∷ ‵ (froom ty30 l30 0) ∷ ‵ (fdies ty30 l30) ∷ ‵ (froom ty29 l29 0) ∷ ‵ (fdies ty29 l29) ∷ ‵ (froom ty28 l28 0) ∷ ‵ (fdies ty28 l28) ∷ ‵ (froom ty27 l27 0) ∷ ‵ (fdies ty27 l27) ∷ ‵ (froom ty26 l26 0) ∷ ‵ (fdies ty26 l26) ∷ ‵ (froom ty25 l25 0) ∷ ‵ (fdies ty25 l25) ∷ ‵ (froom ty24 l24 0) ∷ ‵ (fdies ty24 l24) ∷ ‵ (froom ty23 l23 0) ∷ ‵ (fdies ty23 l23) ∷ ‵ (froom ty22 l22 0) ∷ ‵ (fdies ty22 l22) ∷ ‵ (froom ty21 l21 0) ∷ ‵ (fdies ty21 l21) ∷ ‵ (froom ty20 l20 0) ∷ ‵ (fdies ty20 l20) ∷ ‵ (froom ty19 l19 0) ∷ ‵ (fdies ty19 l19) ∷ ‵ (froom ty18 l18 0) ∷ ‵ (fdies ty18 l18) ∷ ‵ (froom ty17 l17 0) ∷ ‵ (fdies ty17 l17) ∷ ‵ (froom ty16 l16 0) ∷ ‵ (fdies ty16 l16) ∷ ‵ (froom ty15 l15 0) ∷ ‵ (fdies ty15 l15) ∷ ‵ (froom ty14 l14 0) ∷ ‵ (fdies ty14 l14) ∷ ‵ (froom ty13 l13 0) ∷ ‵ (fdies ty13 l13) ∷ ‵ (froom ty12 l12 0) ∷ ‵ (fdies ty12 l12) ∷ ‵ (froom ty11 l11 0) ∷ ‵ (fdies ty11 l11) ∷ ‵ (froom ty10 l10 0) ∷ ‵ (fdies ty10 l10) ∷ ‵ (froom ty9 l9 0) ∷ ‵ (fdies ty9 l9) ∷ ‵ (froom ty8 l8 0) ∷ ‵ (fdies ty8 l8) ∷ ‵ (froom ty7 l7 0) ∷ ‵ (fdies ty7 l7) ∷ ‵ (froom ty6 l6 0) ∷ ‵ (fdies ty6 l6) ∷ ‵ (froom ty5 l5 0) ∷ ‵ (fdies ty5 l5) ∷ ‵ (froom ty4 l4 0) ∷ ‵ (fdies ty4 l4) ∷ ‵ (fat fullShare ty3 l3 0 (a-usize .val count)) ∷ ‵ (fdies ty3 l3) ∷ ‵ (fat fullShare ty2 l2 0 ((known-array a-Input 256) .val inputs)) ∷ ‵ (fdies ty2 l2) ∷ ‵ (fat fullShare ty1 l1 0 (a-Desk .val d)) ∷ ‵ (fdies ty1 l1) ∷ ‵ (froom ty0 l0 0) ∷ ‵ (fdies ty0 l0) ∷ []) (runs (𝓣 .C) (𝓣 .Λ) E (code.function .body) (atRet E Post))
-      unfolding after soundAfter outputsUpTo
+      unfolding after soundAfter responsesUpTo
       from-0 =
           assigns ! (of-opd ! (load ! (from ! (stop !)) (look ! 78 refl))) (from ! (stop !)) (init ! 74 refl ((known-array a-Input 256) .lawful 𝓤 H A W .typed inputs _ inputs-fine .0)) $
           calls-value ! fm (Says-in-block 𝓤 H A at-mem run) known-in-block to-in-block (a-usize .val (min count block)) _ (asks-in-block count-fine) gives-in-block (and-then ! (load ! (from ! (stop !)) (look ! 77 refl)) (no-more !)) (λ t-in-block.
@@ -759,13 +759,13 @@ module _ {M′ : Type 1} (𝓤 : URA M′) (H : Heap 𝓤) (A : Atoms 𝓤) (W :
           calls-value ! fm (Says-audit-of 𝓤 H A at-mem run) known-audit-of to-audit-of ((known-array a-AuditLine 200) .val (d .audit)) _ (asks-audit-of d-fine) gives-audit-of (and-then ! (load ! (from ! (stop !)) (look ! 81 refl)) (no-more !)) (λ t-audit-of.
           land ! (from ! (stop !)) (init ! 38 refl ((known-array a-AuditLine 200) .lawful 𝓤 H A W .typed (d .audit) _ t-audit-of .0)) $
           assigns ! (of-opd ! (load ! (from ! (stop !)) (look ! 38 refl))) (from ! (stop !)) (init ! 62 refl ((known-array a-AuditLine 200) .lawful 𝓤 H A W .typed (d .audit) _ t-audit-of .0)) $
-          calls-value ! fm (Says-no-outputs 𝓤 H A at-mem run) known-no-outputs to-no-outputs ((known-array a-Output 256) .val (replicate block noOutput)) _ (asks-no-outputs) gives-no-outputs (no-more !) (λ t-no-outputs.
-          land ! (from ! (stop !)) (init ! 36 refl ((known-array a-Output 256) .lawful 𝓤 H A W .typed (replicate block noOutput) _ t-no-outputs .0)) $
-          assigns ! (of-opd ! (load ! (from ! (stop !)) (look ! 36 refl))) (from ! (stop !)) (init ! 60 refl ((known-array a-Output 256) .lawful 𝓤 H A W .typed (replicate block noOutput) _ t-no-outputs .0)) $
+          calls-value ! fm (Says-no-responses 𝓤 H A at-mem run) known-no-responses to-no-responses ((known-array a-Response 256) .val (replicate block noResponse)) _ (asks-no-responses) gives-no-responses (no-more !) (λ t-no-responses.
+          land ! (from ! (stop !)) (init ! 36 refl ((known-array a-Response 256) .lawful 𝓤 H A W .typed (replicate block noResponse) _ t-no-responses .0)) $
+          assigns ! (of-opd ! (load ! (from ! (stop !)) (look ! 36 refl))) (from ! (stop !)) (init ! 60 refl ((known-array a-Response 256) .lawful 𝓤 H A W .typed (replicate block noResponse) _ t-no-responses .0)) $
           assigns ! (of-opd ! (lit ! tt)) (from ! (stop !)) (init ! 58 refl (a-u64 .lawful 𝓤 H A W .typed 0 _ (refl, lit< tt) .0)) $
           forget ! 80 refl $ forget ! 78 refl $ forget ! 76 refl $ forget ! 42 refl $ forget ! 40 refl $ forget ! 38 refl $ forget ! 36 refl $
           keep ! (0 ∷ 1 ∷ 2 ∷ 3 ∷ 4 ∷ 5 ∷ 6 ∷ 7 ∷ 8 ∷ 9 ∷ 10 ∷ 11 ∷ 12 ∷ 13 ∷ 14 ∷ 15 ∷ 16 ∷ 17 ∷ 18 ∷ 19 ∷ 20 ∷ 21 ∷ 22 ∷ 23 ∷ 24 ∷ 25 ∷ 26 ∷ 27 ∷ 28 ∷ 29 ∷ 30 ∷ 31 ∷ 32 ∷ 33 ∷ 34 ∷ 35 ∷ 36 ∷ 37 ∷ 38 ∷ 39 ∷ 40 ∷ 41 ∷ 42 ∷ 43 ∷ 44 ∷ 45 ∷ 46 ∷ 47 ∷ 48 ∷ 49 ∷ 50 ∷ 51 ∷ 52 ∷ 53 ∷ 54 ∷ 55 ∷ 56 ∷ 57 ∷ 58 ∷ 59 ∷ 60 ∷ 61 ∷ 62 ∷ 63 ∷ 64 ∷ 65 ∷ 66 ∷ 67 ∷ 68 ∷ 69 ∷ 70 ∷ 71 ∷ 72 ∷ 73 ∷ 74 ∷ 75 ∷ 76 ∷ 77 ∷ 78 ∷ 79 ∷ 80 ∷ 81 ∷ 82 ∷ 83 ∷ []) $
-          first ! $ blocks ! $ loops ! 𝓣 Nearer Nearer-wf At (turns t-in-block) (0, (zero-le, (t-state-of, (t-whole, (t-archive-of, (t-log-of, (t-audit-of, t-no-outputs))))))))))))))
+          first ! $ blocks ! $ loops ! 𝓣 Nearer Nearer-wf At (turns t-in-block) (0, (zero-le, (t-state-of, (t-whole, (t-archive-of, (t-log-of, (t-audit-of, t-no-responses))))))))))))))
 
       passed : Sq W (‵ (froom ty41 l41 0) ∷ ‵ (fdies ty41 l41) ∷ ‵ (froom ty40 l40 0) ∷ ‵ (fdies ty40 l40) ∷ ‵ (froom ty39 l39 0) ∷ ‵ (fdies ty39 l39) ∷ ‵ (froom ty38 l38 0) ∷ ‵ (fdies ty38 l38) ∷ ‵ (froom ty37 l37 0) ∷ ‵ (fdies ty37 l37) ∷ ‵ (froom ty36 l36 0) ∷ ‵ (fdies ty36 l36) ∷ ‵ (froom ty35 l35 0) ∷ ‵ (fdies ty35 l35) ∷ ‵ (froom ty34 l34 0) ∷ ‵ (fdies ty34 l34) ∷ ‵ (froom ty33 l33 0) ∷ ‵ (fdies ty33 l33) ∷ ‵ (froom ty32 l32 0) ∷ ‵ (fdies ty32 l32) ∷ ‵ (froom ty31 l31 0) ∷ ‵ (fdies ty31 l31) ∷ ‵ (froom ty30 l30 0) ∷ ‵ (fdies ty30 l30) ∷ ‵ (froom ty29 l29 0) ∷ ‵ (fdies ty29 l29) ∷ ‵ (froom ty28 l28 0) ∷ ‵ (fdies ty28 l28) ∷ ‵ (froom ty27 l27 0) ∷ ‵ (fdies ty27 l27) ∷ ‵ (froom ty26 l26 0) ∷ ‵ (fdies ty26 l26) ∷ ‵ (froom ty25 l25 0) ∷ ‵ (fdies ty25 l25) ∷ ‵ (froom ty24 l24 0) ∷ ‵ (fdies ty24 l24) ∷ ‵ (froom ty23 l23 0) ∷ ‵ (fdies ty23 l23) ∷ ‵ (froom ty22 l22 0) ∷ ‵ (fdies ty22 l22) ∷ ‵ (froom ty21 l21 0) ∷ ‵ (fdies ty21 l21) ∷ ‵ (froom ty20 l20 0) ∷ ‵ (fdies ty20 l20) ∷ ‵ (froom ty19 l19 0) ∷ ‵ (fdies ty19 l19) ∷ ‵ (froom ty18 l18 0) ∷ ‵ (fdies ty18 l18) ∷ ‵ (froom ty17 l17 0) ∷ ‵ (fdies ty17 l17) ∷ ‵ (froom ty16 l16 0) ∷ ‵ (fdies ty16 l16) ∷ ‵ (froom ty15 l15 0) ∷ ‵ (fdies ty15 l15) ∷ ‵ (froom ty14 l14 0) ∷ ‵ (fdies ty14 l14) ∷ ‵ (froom ty13 l13 0) ∷ ‵ (fdies ty13 l13) ∷ ‵ (froom ty12 l12 0) ∷ ‵ (fdies ty12 l12) ∷ ‵ (froom ty11 l11 0) ∷ ‵ (fdies ty11 l11) ∷ ‵ (froom ty10 l10 0) ∷ ‵ (fdies ty10 l10) ∷ ‵ (froom ty9 l9 0) ∷ ‵ (fdies ty9 l9) ∷ ‵ (froom ty8 l8 0) ∷ ‵ (fdies ty8 l8) ∷ ‵ (froom ty7 l7 0) ∷ ‵ (fdies ty7 l7) ∷ ‵ (froom ty6 l6 0) ∷ ‵ (fdies ty6 l6) ∷ ‵ (froom ty5 l5 0) ∷ ‵ (fdies ty5 l5) ∷ ‵ (froom ty4 l4 0) ∷ ‵ (fdies ty4 l4) ∷ ‵ (fat fullShare ty3 l3 0 (a-usize .val count)) ∷ ‵ (fdies ty3 l3) ∷ ‵ (fat fullShare ty2 l2 0 ((known-array a-Input 256) .val inputs)) ∷ ‵ (fdies ty2 l2) ∷ ‵ (fat fullShare ty1 l1 0 (a-Desk .val d)) ∷ ‵ (fdies ty1 l1) ∷ ‵ (froom ty0 l0 0) ∷ ‵ (fdies ty0 l0) ∷ ‵ ftrue ∷ ‵ (owns (Desk′.the-row ∷ (Array Input′.the-row 256) ∷ usize ∷ []) args machine) ∷ []) (runs (𝓣 .C) (𝓣 .Λ) E (code.function .body) (atRet E Post))
       passed =
@@ -779,11 +779,11 @@ module _ {M′ : Type 1} (𝓤 : URA M′) (H : Heap 𝓤) (A : Atoms 𝓤) (W :
         pass1 ! (init ! 80 refl (a-Desk .lawful 𝓤 H A W .typed d _ d-fine .0)) $ pass1 ! (init ! 78 refl ((known-array a-Input 256) .lawful 𝓤 H A W .typed inputs _ inputs-fine .0)) $ pass1 ! (init ! 76 refl (a-usize .lawful 𝓤 H A W .typed count _ count-fine .0)) $ pass0 ! $
         passed l0 l1 l2 l3 l4 l5 l6 l7 l8 l9 l10 l11 l12 l13 l14 l15 l16 l17 l18 l19 l20 l21 l22 l23 l24 l25 l26 l27 l28 l29 l30 l31 l32 l33 l34 l35 l36 l37 l38 l39 l40 l41))))))))))))))))))))))))))))))))))))))))))
 
-module _ {M′ : Type 1} (𝓤 : URA M′) (H : Heap 𝓤) (A : Atoms 𝓤) (W : Given 𝓤 H A) (at-mem : Memory → SProp 𝓤) (run : Routine → Fun 𝓤) (𝓣 : Tables 𝓤 H) (known-in-block : Triple 𝓤 (𝓣 .C #desk·in-block) (Says-in-block 𝓤 H A at-mem run)) (known-state-of : Triple 𝓤 (𝓣 .C #desk·state-of) (Says-state-of 𝓤 H A at-mem run)) (known-whole : Triple 𝓤 (𝓣 .C #state·whole) (Says-whole 𝓤 H A at-mem run)) (known-archive-of : Triple 𝓤 (𝓣 .C #desk·archive-of) (Says-archive-of 𝓤 H A at-mem run)) (known-log-of : Triple 𝓤 (𝓣 .C #desk·log-of) (Says-log-of 𝓤 H A at-mem run)) (known-audit-of : Triple 𝓤 (𝓣 .C #desk·audit-of) (Says-audit-of 𝓤 H A at-mem run)) (known-no-outputs : Triple 𝓤 (𝓣 .C #desk·no-outputs) (Says-no-outputs 𝓤 H A at-mem run)) (known-fetch-input : Triple 𝓤 (𝓣 .C #desk·fetch-input) (Says-fetch-input 𝓤 H A at-mem run)) (known-entry-in : Triple 𝓤 (𝓣 .C #desk·entry-in) (Says-entry-in 𝓤 H A at-mem run)) (known-command-in : Triple 𝓤 (𝓣 .C #desk·command-in) (Says-command-in 𝓤 H A at-mem run)) (known-seen : Triple 𝓤 (𝓣 .C #device·seen) (Says-seen 𝓤 H A at-mem run)) (known-answer : Triple 𝓤 (𝓣 .C #device·answer) (Says-answer 𝓤 H A at-mem run)) (known-answered-in : Triple 𝓤 (𝓣 .C #desk·answered-in) (Says-answered-in 𝓤 H A at-mem run)) (known-output-by : Triple 𝓤 (𝓣 .C #desk·output-by) (Says-output-by 𝓤 H A at-mem run)) (known-put-output : Triple 𝓤 (𝓣 .C #desk·put-output) (Says-put-output 𝓤 H A at-mem run)) (known-state-in : Triple 𝓤 (𝓣 .C #desk·state-in) (Says-state-in 𝓤 H A at-mem run)) (known-sound-by : Triple 𝓤 (𝓣 .C #desk·sound-by) (Says-sound-by 𝓤 H A at-mem run)) (known-put-together : Triple 𝓤 (𝓣 .C #desk·put-together) (Says-put-together 𝓤 H A at-mem run)) where
+module _ {M′ : Type 1} (𝓤 : URA M′) (H : Heap 𝓤) (A : Atoms 𝓤) (W : Given 𝓤 H A) (at-mem : Memory → SProp 𝓤) (run : Routine → Fun 𝓤) (𝓣 : Tables 𝓤 H) (known-in-block : Triple 𝓤 (𝓣 .C #desk·in-block) (Says-in-block 𝓤 H A at-mem run)) (known-state-of : Triple 𝓤 (𝓣 .C #desk·state-of) (Says-state-of 𝓤 H A at-mem run)) (known-whole : Triple 𝓤 (𝓣 .C #state·whole) (Says-whole 𝓤 H A at-mem run)) (known-archive-of : Triple 𝓤 (𝓣 .C #desk·archive-of) (Says-archive-of 𝓤 H A at-mem run)) (known-log-of : Triple 𝓤 (𝓣 .C #desk·log-of) (Says-log-of 𝓤 H A at-mem run)) (known-audit-of : Triple 𝓤 (𝓣 .C #desk·audit-of) (Says-audit-of 𝓤 H A at-mem run)) (known-no-responses : Triple 𝓤 (𝓣 .C #desk·no-responses) (Says-no-responses 𝓤 H A at-mem run)) (known-fetch-input : Triple 𝓤 (𝓣 .C #desk·fetch-input) (Says-fetch-input 𝓤 H A at-mem run)) (known-entry-in : Triple 𝓤 (𝓣 .C #desk·entry-in) (Says-entry-in 𝓤 H A at-mem run)) (known-command-in : Triple 𝓤 (𝓣 .C #desk·command-in) (Says-command-in 𝓤 H A at-mem run)) (known-seen : Triple 𝓤 (𝓣 .C #device·seen) (Says-seen 𝓤 H A at-mem run)) (known-answer : Triple 𝓤 (𝓣 .C #device·answer) (Says-answer 𝓤 H A at-mem run)) (known-answered-in : Triple 𝓤 (𝓣 .C #desk·answered-in) (Says-answered-in 𝓤 H A at-mem run)) (known-response-by : Triple 𝓤 (𝓣 .C #desk·response-by) (Says-response-by 𝓤 H A at-mem run)) (known-put-response : Triple 𝓤 (𝓣 .C #desk·put-response) (Says-put-response 𝓤 H A at-mem run)) (known-state-in : Triple 𝓤 (𝓣 .C #desk·state-in) (Says-state-in 𝓤 H A at-mem run)) (known-sound-by : Triple 𝓤 (𝓣 .C #desk·sound-by) (Says-sound-by 𝓤 H A at-mem run)) (known-put-together : Triple 𝓤 (𝓣 .C #desk·put-together) (Says-put-together 𝓤 H A at-mem run)) where
   walks : Walks 𝓤 H A fn.ended stayed (WpFn 𝓤 H (𝓣 .C) (𝓣 .Λ) code.function) (fn.clauses 𝓤 H A at-mem run)
   walks = walked 𝓤 H A fn.ended stayed (fn.clauses 𝓤 H A at-mem run) (WpFn 𝓤 H (𝓣 .C) (𝓣 .Λ) code.function)
       (λ κs. (vals a-Desk, (vals (known-array a-Input 256), (vals a-usize, tt)))) (λ κs. (a-Desk .tells, ((known-array a-Input 256) .tells, (a-usize .tells, tt))))
-      (λ κs qs bounds a g are. via 𝓤 _ (fst∗ 𝓤 _ (emp 𝓤)) (walk 𝓤 H A W at-mem run (a .0) (are .0) (a .1 .0) (are .1 .0) (a .1 .1 .0) (are .1 .1 .0) 𝓣 known-in-block known-state-of known-whole known-archive-of known-log-of known-audit-of known-no-outputs known-fetch-input known-entry-in known-command-in known-seen known-answer known-answered-in known-output-by known-put-output known-state-in known-sound-by known-put-together))
+      (λ κs qs bounds a g are. via 𝓤 _ (fst∗ 𝓤 _ (emp 𝓤)) (walk 𝓤 H A W at-mem run (a .0) (are .0) (a .1 .0) (are .1 .0) (a .1 .1 .0) (are .1 .1 .0) 𝓣 known-in-block known-state-of known-whole known-archive-of known-log-of known-audit-of known-no-responses known-fetch-input known-entry-in known-command-in known-seen known-answer known-answered-in known-response-by known-put-response known-state-in known-sound-by known-put-together))
 
   goes : AllGo 𝓤 H A W 0 (fn.signature .params) (fn.ended .kept) stayed
   goes = (goes-dropped 𝓤 H A W 0 (plain (λ _. Desk′.the-row)) yes (λ κs x f. refl), (goes-dropped 𝓤 H A W 0 (plain (λ _. (Array Input′.the-row 256))) yes (λ κs x f. refl), (goes-dropped 𝓤 H A W 0 (plain (λ _. usize)) yes (λ κs x f. refl), tt)))
@@ -803,15 +803,15 @@ serve-spec 𝓤 H 𝓜 𝓖 𝓡 =
     (cited 𝓤 H (Says-archive-of 𝓤 H (𝓖 .A) (𝓜 .mem) (𝓡 .run)) 𝓜 𝓡 code.env #desk·archive-of archive-of-def.routine code.calls-desk·archive-of (archive-of-thm.met 𝓤 H 𝓜 𝓖 𝓡))
     (cited 𝓤 H (Says-log-of 𝓤 H (𝓖 .A) (𝓜 .mem) (𝓡 .run)) 𝓜 𝓡 code.env #desk·log-of log-of-def.routine code.calls-desk·log-of (log-of-thm.met 𝓤 H 𝓜 𝓖 𝓡))
     (cited 𝓤 H (Says-audit-of 𝓤 H (𝓖 .A) (𝓜 .mem) (𝓡 .run)) 𝓜 𝓡 code.env #desk·audit-of audit-of-def.routine code.calls-desk·audit-of (audit-of-thm.met 𝓤 H 𝓜 𝓖 𝓡))
-    (cited 𝓤 H (Says-no-outputs 𝓤 H (𝓖 .A) (𝓜 .mem) (𝓡 .run)) 𝓜 𝓡 code.env #desk·no-outputs no-outputs-def.routine code.calls-desk·no-outputs (no-outputs-thm.met 𝓤 H 𝓜 𝓖 𝓡))
+    (cited 𝓤 H (Says-no-responses 𝓤 H (𝓖 .A) (𝓜 .mem) (𝓡 .run)) 𝓜 𝓡 code.env #desk·no-responses no-responses-def.routine code.calls-desk·no-responses (no-responses-thm.met 𝓤 H 𝓜 𝓖 𝓡))
     (cited 𝓤 H (Says-fetch-input 𝓤 H (𝓖 .A) (𝓜 .mem) (𝓡 .run)) 𝓜 𝓡 code.env #desk·fetch-input fetch-input-def.routine code.calls-desk·fetch-input (fetch-input-thm.met 𝓤 H 𝓜 𝓖 𝓡))
     (cited 𝓤 H (Says-entry-in 𝓤 H (𝓖 .A) (𝓜 .mem) (𝓡 .run)) 𝓜 𝓡 code.env #desk·entry-in entry-in-def.routine code.calls-desk·entry-in (entry-in-thm.met 𝓤 H 𝓜 𝓖 𝓡))
     (cited 𝓤 H (Says-command-in 𝓤 H (𝓖 .A) (𝓜 .mem) (𝓡 .run)) 𝓜 𝓡 code.env #desk·command-in command-in-def.routine code.calls-desk·command-in (command-in-thm.met 𝓤 H 𝓜 𝓖 𝓡))
     (cited 𝓤 H (Says-seen 𝓤 H (𝓖 .A) (𝓜 .mem) (𝓡 .run)) 𝓜 𝓡 code.env #device·seen seen-def.routine code.calls-device·seen (seen-thm.met 𝓤 H 𝓜 𝓖 𝓡))
     (cited 𝓤 H (Says-answer 𝓤 H (𝓖 .A) (𝓜 .mem) (𝓡 .run)) 𝓜 𝓡 code.env #device·answer answer-def.routine code.calls-device·answer (answer-thm.met 𝓤 H 𝓜 𝓖 𝓡))
     (cited 𝓤 H (Says-answered-in 𝓤 H (𝓖 .A) (𝓜 .mem) (𝓡 .run)) 𝓜 𝓡 code.env #desk·answered-in answered-in-def.routine code.calls-desk·answered-in (answered-in-thm.met 𝓤 H 𝓜 𝓖 𝓡))
-    (cited 𝓤 H (Says-output-by 𝓤 H (𝓖 .A) (𝓜 .mem) (𝓡 .run)) 𝓜 𝓡 code.env #desk·output-by output-by-def.routine code.calls-desk·output-by (output-by-thm.met 𝓤 H 𝓜 𝓖 𝓡))
-    (cited 𝓤 H (Says-put-output 𝓤 H (𝓖 .A) (𝓜 .mem) (𝓡 .run)) 𝓜 𝓡 code.env #desk·put-output put-output-def.routine code.calls-desk·put-output (put-output-thm.met 𝓤 H 𝓜 𝓖 𝓡))
+    (cited 𝓤 H (Says-response-by 𝓤 H (𝓖 .A) (𝓜 .mem) (𝓡 .run)) 𝓜 𝓡 code.env #desk·response-by response-by-def.routine code.calls-desk·response-by (response-by-thm.met 𝓤 H 𝓜 𝓖 𝓡))
+    (cited 𝓤 H (Says-put-response 𝓤 H (𝓖 .A) (𝓜 .mem) (𝓡 .run)) 𝓜 𝓡 code.env #desk·put-response put-response-def.routine code.calls-desk·put-response (put-response-thm.met 𝓤 H 𝓜 𝓖 𝓡))
     (cited 𝓤 H (Says-state-in 𝓤 H (𝓖 .A) (𝓜 .mem) (𝓡 .run)) 𝓜 𝓡 code.env #desk·state-in state-in-def.routine code.calls-desk·state-in (state-in-thm.met 𝓤 H 𝓜 𝓖 𝓡))
     (cited 𝓤 H (Says-sound-by 𝓤 H (𝓖 .A) (𝓜 .mem) (𝓡 .run)) 𝓜 𝓡 code.env #desk·sound-by sound-by-def.routine code.calls-desk·sound-by (sound-by-thm.met 𝓤 H 𝓜 𝓖 𝓡))
     (cited 𝓤 H (Says-put-together 𝓤 H (𝓖 .A) (𝓜 .mem) (𝓡 .run)) 𝓜 𝓡 code.env #desk·put-together put-together-def.routine code.calls-desk·put-together (put-together-thm.met 𝓤 H 𝓜 𝓖 𝓡)))

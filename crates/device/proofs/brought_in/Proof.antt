@@ -38,6 +38,12 @@ enum-told-5 c = search needs
 no-readings-requires-5 : tie.Need-no-readings-requires-5
 no-readings-requires-5 c κs = search needs
 
+enum-told-6 : tie.Need-enum-told-6
+enum-told-6 c = search needs
+
+no-readings-requires-6 : tie.Need-no-readings-requires-6
+no-readings-requires-6 c κs = search needs
+
 returns : tie.Need-returns
 unfolding broughtIn
 returns c = simp (c .before .c .given .1)
@@ -62,5 +68,9 @@ returns-6 : tie.Need-returns-6
 unfolding broughtIn
 returns-6 c = simp (c .no-readings5 .ensures, c .before .enum-told5 .given .1)
 
+returns-7 : tie.Need-returns-7
+unfolding broughtIn
+returns-7 c = simp (c .no-readings6 .ensures, c .before .enum-told6 .given .1)
+
 pub brought-in-spec : {M : Type 1} → statement M
-brought-in-spec = tie.close (tie.spec enum-known-c enum-told no-readings-requires enum-told-2 no-readings-requires-2 enum-told-3 no-readings-requires-3 enum-told-4 no-readings-requires-4 enum-told-5 no-readings-requires-5 returns returns-2 returns-3 returns-4 returns-5 returns-6)
+brought-in-spec = tie.close (tie.spec enum-known-c enum-told no-readings-requires enum-told-2 no-readings-requires-2 enum-told-3 no-readings-requires-3 enum-told-4 no-readings-requires-4 enum-told-5 no-readings-requires-5 enum-told-6 no-readings-requires-6 returns returns-2 returns-3 returns-4 returns-5 returns-6 returns-7)

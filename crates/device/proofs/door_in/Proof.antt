@@ -20,6 +20,9 @@ enum-told-4 c = search needs
 enum-told-5 : tie.Need-enum-told-5
 enum-told-5 c = search needs
 
+enum-told-6 : tie.Need-enum-told-6
+enum-told-6 c = search needs
+
 enum-known-c : tie.Need-enum-known-c
 enum-known-c c = search needs
 
@@ -45,7 +48,11 @@ returns-5 c = simp (c .enum-told5 .given .1)
 
 returns-6 : tie.Need-returns-6
 unfolding doorIn
-returns-6 c = simp (c .before .c .given .1)
+returns-6 c = simp (c .enum-told6 .given .1)
+
+returns-7 : tie.Need-returns-7
+unfolding doorIn
+returns-7 c = simp (c .before .c .given .1)
 
 pub door-in-spec : {M : Type 1} → statement M
-door-in-spec = tie.close (tie.spec enum-told enum-told-2 enum-told-3 enum-told-4 enum-told-5 enum-known-c returns returns-2 returns-3 returns-4 returns-5 returns-6)
+door-in-spec = tie.close (tie.spec enum-told enum-told-2 enum-told-3 enum-told-4 enum-told-5 enum-told-6 enum-known-c returns returns-2 returns-3 returns-4 returns-5 returns-6 returns-7)

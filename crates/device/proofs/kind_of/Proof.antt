@@ -23,6 +23,9 @@ enum-told-5 c = search needs
 enum-told-6 : tie.Need-enum-told-6
 enum-told-6 c = search needs
 
+enum-told-7 : tie.Need-enum-told-7
+enum-told-7 c = search needs
+
 returns : tie.Need-returns
 unfolding kindOf
 returns c = simp (c .enum-told .given .1)
@@ -47,5 +50,9 @@ returns-6 : tie.Need-returns-6
 unfolding kindOf
 returns-6 c = simp (c .enum-told6 .given .1)
 
+returns-7 : tie.Need-returns-7
+unfolding kindOf
+returns-7 c = simp (c .enum-told7 .given .1)
+
 pub kind-of-spec : {M : Type 1} → statement M
-kind-of-spec = tie.close (tie.spec enum-told enum-told-2 enum-told-3 enum-told-4 enum-told-5 enum-told-6 returns returns-2 returns-3 returns-4 returns-5 returns-6)
+kind-of-spec = tie.close (tie.spec enum-told enum-told-2 enum-told-3 enum-told-4 enum-told-5 enum-told-6 enum-told-7 returns returns-2 returns-3 returns-4 returns-5 returns-6 returns-7)

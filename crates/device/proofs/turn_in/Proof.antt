@@ -23,6 +23,9 @@ enum-told-4 c = search needs
 enum-told-5 : tie.Need-enum-told-5
 enum-told-5 c = search needs
 
+enum-told-6 : tie.Need-enum-told-6
+enum-told-6 c = search needs
+
 returns : tie.Need-returns
 unfolding turnIn
 returns c = simp (c .enum-told .given .1)
@@ -47,5 +50,9 @@ returns-6 : tie.Need-returns-6
 unfolding turnIn
 returns-6 c = simp (c .enum-told5 .given .1)
 
+returns-7 : tie.Need-returns-7
+unfolding turnIn
+returns-7 c = simp (c .enum-told6 .given .1)
+
 pub turn-in-spec : {M : Type 1} → statement M
-turn-in-spec = tie.close (tie.spec enum-told enum-known-c enum-told-2 enum-told-3 enum-told-4 enum-told-5 returns returns-2 returns-3 returns-4 returns-5 returns-6)
+turn-in-spec = tie.close (tie.spec enum-told enum-known-c enum-told-2 enum-told-3 enum-told-4 enum-told-5 enum-told-6 returns returns-2 returns-3 returns-4 returns-5 returns-6 returns-7)

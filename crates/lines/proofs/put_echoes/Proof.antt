@@ -4,16 +4,16 @@ use borrow.Author.Needs.{needs}
 use Prim.Native.Nat.{_-_, _<_}
 use native.Mathlib.Omega.{arith}
 use denote.Ref.{now}
-use Rattle.desk.specs.Desk.{block, noOutput}
+use Rattle.desk.specs.Desk.{block, noResponse}
 use Rattle.lines.proofs.Fronts.{Echoed, none-echoed, echo-more, all-echoed}
 use Rattle.lines.proofs.put_echoes.Statement.{statement}
 use Rattle.lines.proofs.put_echoes.Tie as tie
 
 abbrev Inv-loop : tie.InvT-loop
-Inv-loop out₀ count outputs used₀ k₀ out used k = Echoed out₀ outputs count out used k
+Inv-loop out₀ count responses used₀ k₀ out used k = Echoed out₀ responses count out used k
 
 abbrev μ-loop : tie.MeasureT-loop
-μ-loop out₀ count outputs used₀ k₀ out used k = count - k
+μ-loop out₀ count responses used₀ k₀ out used k = count - k
 
 loop-holds : tie.Need-loop-holds Inv-loop μ-loop
 loop-holds c =
@@ -52,7 +52,7 @@ loop-again c =
     let p = c .before .before .echo-line in
     let h : l .k < a .count = c .before .before .before .before .before .before .loop-test .taken in
     let q : l .k < block = omega arith in
-    echo-more (now (a .out)) (a .t2) (a .count) (l .out) (p .last .0) (l .used) (p .result) (l .k) noOutput (l .inv) h q (g .1 .0 .1 .0 .1) (p .ensures)
+    echo-more (now (a .out)) (a .t2) (a .count) (l .out) (p .last .0) (l .used) (p .result) (l .k) noResponse (l .inv) h q (g .1 .0 .1 .0 .1) (p .ensures)
 
 same-length-2 : tie.Need-same-length-2 Inv-loop μ-loop
 same-length-2 c = c .before .loop .inv .same

@@ -7,10 +7,10 @@ use Rattle.pace.proofs.accepted_in.Statement.{statement}
 use Rattle.pace.proofs.accepted_in.Tie as tie
 
 abbrev Inv-loop : tie.InvT-loop
-Inv-loop count outputs found₀ k₀ found k = k ≤ 256
+Inv-loop count responses found₀ k₀ found k = k ≤ 256
 
 abbrev μ-loop : tie.MeasureT-loop
-μ-loop count outputs found₀ k₀ found k = 256 - k
+μ-loop count responses found₀ k₀ found k = 256 - k
 
 loop-holds : tie.Need-loop-holds Inv-loop μ-loop
 loop-holds c = omega arith

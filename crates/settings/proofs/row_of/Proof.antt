@@ -1,11 +1,12 @@
 -- `settings::row_of` meets its contract, row by row: the checker computes the definition's row, and past the table's end there is none.
 -- Assumes nothing.
 use mathlib.Core.Path.{_≡_, sym, ap, _∙_}
-use Prim.Native.Nat.{ℕ, zero, suc, _≤_}
+use Prim.Native.Nat.{ℕ}
 use lib.Ieee.{ofBits, neg}
 use lib.ListN.{List·getD-eq-default}
 use native.Mathlib.Omega.{arith}
 use borrow.Author.Needs.{needs}
+use Rattle.ground.proofs.Table.{NoneFrom, past}
 use Rattle.settings.specs.declared.Row.{Row}
 use Rattle.settings.specs.Settings.{settingCount, rows, rowOf, noRow}
 use Rattle.settings.proofs.row_of.Statement.{statement}
@@ -15,24 +16,23 @@ use Rattle.settings.proofs.row_of.Tie as tie
 row-at : {k n : ℕ} {r : Row} → k ≡ n → r ≡ rowOf n → r ≡ rowOf k
 row-at e p = p ∙ sym (ap rowOf e)
 
--- k is none of the numbers below n, as the last arm of a `match` has it
-abbrev NoneOf : ℕ → ℕ → Type 0
-NoneOf k zero = Unit
-NoneOf k (suc n) = NoneOf k n × (k ≡ n → ⊥)
-
-past : (k n : ℕ) → NoneOf k n → n ≤ k
-past k zero h = omega arith
-past k (suc n) h = omega (arith, past k n (h .0), h .1)
-
-no-row : {k : ℕ} {r : Row} → NoneOf k settingCount → r ≡ noRow → r ≡ rowOf k
+no-row : {k : ℕ} {r : Row} → NoneFrom 0 k settingCount → r ≡ noRow → r ≡ rowOf k
 unfolding rowOf rows
-no-row {k = k} h p = p ∙ sym (List·getD-eq-default rows noRow {n = k} (past k settingCount h))
+no-row {k = k} h p = p ∙ sym (List·getD-eq-default rows noRow {n = k} (past 0 k settingCount (omega arith) h))
 
 pub row-of-spec : {M : Type 1} → statement M
 unfolding rowOf rows ofBits neg
 row-of-spec =
     tie.close
     (tie.spec
+    (λ c κs. search needs)
+    (λ c κs. search needs)
+    (λ c κs. search needs)
+    (λ c κs. search needs)
+    (λ c κs. search needs)
+    (λ c κs. search needs)
+    (λ c κs. search needs)
+    (λ c κs. search needs)
     (λ c κs. search needs)
     (λ c κs. search needs)
     (λ c κs. search needs)
@@ -76,4 +76,12 @@ row-of-spec =
     (λ c. row-at (c .before .match .keys19) (c .whole-row16 .ensures))
     (λ c. row-at (c .before .match .keys20) (c .whole-row17 .ensures))
     (λ c. row-at (c .before .match .keys21) (c .whole-row18 .ensures))
-    (λ c. no-row (c .before .match .rest) (c .whole-row19 .ensures)))
+    (λ c. row-at (c .before .match .keys22) (c .whole-row19 .ensures))
+    (λ c. row-at (c .before .match .keys23) (c .whole-row20 .ensures))
+    (λ c. row-at (c .before .match .keys24) (c .whole-row21 .ensures))
+    (λ c. row-at (c .before .match .keys25) (c .whole-row22 .ensures))
+    (λ c. row-at (c .before .match .keys26) (c .whole-row23 .ensures))
+    (λ c. row-at (c .before .match .keys27) (c .whole-row24 .ensures))
+    (λ c. row-at (c .before .match .keys28) (c .whole-row25 .ensures))
+    (λ c. row-at (c .before .match .keys29) (c .whole-row26 .ensures))
+    (λ c. no-row (c .before .match .rest) (c .whole-row27 .ensures)))

@@ -17,6 +17,9 @@ pairs-ordered-requires c κs = search needs
 latched-ok-requires : tie.Need-latched-ok-requires
 latched-ok-requires c κs = search needs
 
+outputs-ok-requires : tie.Need-outputs-ok-requires
+outputs-ok-requires c κs = search needs
+
 stores-ok-requires : tie.Need-stores-ok-requires
 stores-ok-requires c κs = search needs
 
@@ -32,21 +35,12 @@ both-requires-3 c κs = search needs
 both-requires-4 : tie.Need-both-requires-4
 both-requires-4 c κs = search needs
 
+both-requires-5 : tie.Need-both-requires-5
+both-requires-5 c κs = search needs
+
 returns : tie.Need-returns
 unfolding coreB
-returns c = simp (c .both4 .ensures, c .before .both3 .ensures, c .before .before .both2 .ensures, c .before .before .before .both .ensures, c .before .before .before .before .stores-ok .ensures, c .before .before .before .before .before .latched-ok .ensures, c .before .before .before .before .before .before .pairs-ordered .ensures, c .before .before .before .before .before .before .before .settings-fit .ensures, c .before .before .before .before .before .before .before .before .measured-ok .ensures)
+returns c = simp (c .both5 .ensures, c .before .both4 .ensures, c .before .before .both3 .ensures, c .before .before .before .both2 .ensures, c .before .before .before .before .both .ensures, c .before .before .before .before .before .stores-ok .ensures, c .before .before .before .before .before .before .outputs-ok .ensures, c .before .before .before .before .before .before .before .latched-ok .ensures, c .before .before .before .before .before .before .before .before .pairs-ordered .ensures, c .before .before .before .before .before .before .before .before .before .settings-fit .ensures, c .before .before .before .before .before .before .before .before .before .before .measured-ok .ensures)
 
 pub core-ok-spec : {M : Type 1} → statement M
-core-ok-spec =
-    tie.close
-    (tie.spec
-    measured-ok-requires
-    settings-fit-requires
-    pairs-ordered-requires
-    latched-ok-requires
-    stores-ok-requires
-    both-requires
-    both-requires-2
-    both-requires-3
-    both-requires-4
-    returns)
+core-ok-spec = tie.close (tie.spec measured-ok-requires settings-fit-requires pairs-ordered-requires latched-ok-requires outputs-ok-requires stores-ok-requires both-requires both-requires-2 both-requires-3 both-requires-4 both-requires-5 returns)

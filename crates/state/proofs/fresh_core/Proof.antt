@@ -18,16 +18,12 @@ no-alarms-requires c κs = search needs
 factory-settings-requires : tie.Need-factory-settings-requires
 factory-settings-requires c κs = search needs
 
+fresh-outputs-requires : tie.Need-fresh-outputs-requires
+fresh-outputs-requires c κs = search needs
+
 returns : tie.Need-returns
 unfolding freshCore ringAfter bookAfter
-returns c = simp (c .factory-settings .ensures, c .before .no-alarms .ensures, c .before .before .no-counts .ensures, c .before .before .before .month-of .ensures)
+returns c = simp (c .fresh-outputs .ensures, c .before .factory-settings .ensures, c .before .before .no-alarms .ensures, c .before .before .before .no-counts .ensures, c .before .before .before .before .month-of .ensures)
 
 pub fresh-core-spec : {M : Type 1} → statement M
-fresh-core-spec =
-    tie.close
-    (tie.spec
-    month-of-requires
-    no-counts-requires
-    no-alarms-requires
-    factory-settings-requires
-    returns)
+fresh-core-spec = tie.close (tie.spec month-of-requires no-counts-requires no-alarms-requires factory-settings-requires fresh-outputs-requires returns)

@@ -1,4 +1,4 @@
--- `table::every_setting` is safe and ends: the place stays below 21.
+-- `table::every_setting` is safe and ends: the place stays below 29.
 -- Assumes nothing.
 use Prim.Native.Nat.{_≤_, _-_}
 use native.Mathlib.Omega.{arith}
@@ -7,10 +7,10 @@ use Rattle.card.proofs.table.every_setting.Statement.{statement}
 use Rattle.card.proofs.table.every_setting.Tie as tie
 
 abbrev Inv-loop : tie.InvT-loop
-Inv-loop k₀ k = k ≤ 21
+Inv-loop k₀ k = k ≤ 29
 
 abbrev μ-loop : tie.MeasureT-loop
-μ-loop k₀ k = 21 - k
+μ-loop k₀ k = 29 - k
 
 loop-holds : tie.Need-loop-holds Inv-loop μ-loop
 loop-holds c = omega arith

@@ -1,4 +1,4 @@
--- `same::settings_all` is safe and ends: the place stays below 21.
+-- `same::settings_all` is safe and ends: the place stays below 29.
 -- Assumes nothing.
 use Prim.Native.Nat.{_≤_, _-_}
 use native.Mathlib.Omega.{arith}
@@ -7,10 +7,10 @@ use Rattle.trials.proofs.same.settings_all.Statement.{statement}
 use Rattle.trials.proofs.same.settings_all.Tie as tie
 
 abbrev Inv-loop : tie.InvT-loop
-Inv-loop a b good₀ k₀ good k = k ≤ 21
+Inv-loop a b good₀ k₀ good k = k ≤ 29
 
 abbrev μ-loop : tie.MeasureT-loop
-μ-loop a b good₀ k₀ good k = 21 - k
+μ-loop a b good₀ k₀ good k = 29 - k
 
 loop-holds : tie.Need-loop-holds Inv-loop μ-loop
 loop-holds c = omega arith
