@@ -7,12 +7,13 @@ use crate::calendar::{first_day, month_of_day, SECONDS_A_DAY, SIX_O_CLOCK};
 use crate::command::{obey, Command};
 use crate::device::{
     factor, measured_temperature, temperature_float, Cells, Counters, Device, Totals, Value,
-    ALARM_K, ALARM_P, ALARM_T, ARCHIVE_LINES, AUDIT_LINES, KELVIN, LOG_LINES, OUTPUT_ROWS,
-    VB_MODULUS, VM_MODULUS,
+    ALARM_K, ALARM_P, ALARM_T, ARCHIVE_LINES, AUDIT_LINES, FIRST_CHOICE, FIRST_WEIGHT, KELVIN, K_F,
+    LOG_LINES, MD_K, MD_P, MD_T, OUTPUT_ROWS, PB, SETTINGS, TB, T_F, VB_MODULUS, VM_MODULUS,
 };
 use crate::lines::{read_line, write_answer, Line};
 use crate::output::{Output, BUFFER, CHOICES, LOST_MODULUS, OFF, OUTPUTS, TICK_LIMIT};
 use crate::script::Script;
+use crate::table::{Range, Setting, LOCKS, LOCK_SETS, PAGE};
 
 /// The commands, with the answers that can be reached through lines. Refusals
 /// 1 and 14 are not among them: a device that is only given commands stays
@@ -292,12 +293,80 @@ const FOLLOWED: [Option<Event>; CHOICES] = [
 const OVERFLOW: [Event; OUTPUTS] =
     [Event::FirstOverflow, Event::SecondOverflow, Event::ThirdOverflow, Event::FourthOverflow];
 
+/// Events of request Four, each for every row of the settings page, and at a
+/// commit for every set of open locks. So many would fill the table: a family
+/// has one line there.
+#[derive(Clone, Copy)]
+enum Family {
+    LowestAccepted,
+    HighestAccepted,
+    BelowRefused,
+    AboveRefused,
+    WrongKindRefused,
+    NotFiniteRefused,
+    AloneAccepted,
+    AloneRefused,
+}
+
+const FAMILIES: [(Family, &str); 8] = [
+    (Family::LowestAccepted, "lowest value accepted"),
+    (Family::HighestAccepted, "highest value accepted"),
+    (Family::BelowRefused, "one below the lowest refused"),
+    (Family::AboveRefused, "one above the highest refused"),
+    (Family::WrongKindRefused, "wrong kind refused"),
+    (Family::NotFiniteRefused, "float that is not finite refused"),
+    (Family::AloneAccepted, "commit of a setting alone accepted, by setting and open locks"),
+    (Family::AloneRefused, "commit of a setting alone refused by 10, by setting and open locks"),
+];
+
+impl Family {
+    /// Whether the row lets a script come there. The families of values are
+    /// counted at no open lock, because a write does not ask for any.
+    fn can_be_reached(self, setting: &Setting, open: u8) -> bool {
+        let whole = setting.range != Range::Finite;
+        let right = setting.lock.gives_right(open);
+        match self {
+            Family::LowestAccepted | Family::HighestAccepted | Family::WrongKindRefused => {
+                open == 0
+            }
+            Family::BelowRefused | Family::AboveRefused => open == 0 && whole,
+            Family::NotFiniteRefused => open == 0 && !whole,
+            Family::AloneAccepted => right,
+            Family::AloneRefused => !right,
+        }
+    }
+
+    /// All that can be reached: rows with their sets of open locks.
+    fn members(self) -> Vec<(usize, usize)> {
+        let all = (0..SETTINGS).flat_map(|row| (0..LOCK_SETS).map(move |open| (row, open)));
+        all.filter(|(row, open)| self.can_be_reached(&PAGE.settings[*row], *open as u8)).collect()
+    }
+
+    fn is_of_commits(self) -> bool {
+        matches!(self, Family::AloneAccepted | Family::AloneRefused)
+    }
+
+    fn name_of(self, (row, open): (usize, usize)) -> String {
+        let setting = PAGE.settings[row].number;
+        if !self.is_of_commits() {
+            return format!("setting {setting}");
+        }
+        let is_open = |lock: &usize| open >> (lock - 1) & 1 == 1;
+        let locks: Vec<usize> = (1..=LOCKS).filter(is_open).collect();
+        format!("setting {setting} with locks {locks:?} open")
+    }
+}
+
+/// Counts by row and set of open locks.
+type Counts = [[u64; LOCK_SETS]; SETTINGS];
+
 #[derive(Clone)]
 pub struct Coverage {
     answers: [[u64; NUMBERS]; COMMANDS.len()],
     malformed: u64,
     nothing: u64,
     events: [u64; EVENTS.len()],
+    families: [Counts; FAMILIES.len()],
 }
 
 impl Default for Coverage {
@@ -307,6 +376,7 @@ impl Default for Coverage {
             malformed: 0,
             nothing: 0,
             events: [0; EVENTS.len()],
+            families: [[[0; LOCK_SETS]; SETTINGS]; FAMILIES.len()],
         }
     }
 }
@@ -362,6 +432,12 @@ impl Coverage {
         }
     }
 
+    fn saw_row_if(&mut self, condition: bool, family: Family, row: usize, open: usize) {
+        if condition {
+            self.families[family as usize][row][open] += 1;
+        }
+    }
+
     fn observe(&mut self, command: &Command, number: u8, before: &Before, after: &Device) {
         self.saw_if(after.sessions[0].open && after.sessions[1].open, Event::BothSessionsOpen);
         // Line numbers fall only when they wrap; a start sets them to 0.
@@ -388,14 +464,17 @@ impl Coverage {
                 self.observe_months(before, after);
                 self.observe_six(before, after);
                 self.observe_outputs(before, after);
-                let mode = |setting| matches!(after.in_force(setting), Value::Whole(1));
-                let failed =
-                    [(4, cycle.p.is_none()), (5, cycle.raw.is_none()), (6, cycle.k.is_none())];
+                let mode = |row: usize| after.settings[row] == 1;
+                let failed = [
+                    (MD_P, cycle.p.is_none()),
+                    (MD_T, cycle.raw.is_none()),
+                    (MD_K, cycle.k.is_none()),
+                ];
                 self.saw_if(
-                    failed.into_iter().any(|(setting, failed)| failed && !mode(setting)),
+                    failed.into_iter().any(|(row, failed)| failed && !mode(row)),
                     Event::SensorFailedInModeZero,
                 );
-                if let (true, Some(raw)) = (mode(5), cycle.raw) {
+                if let (true, Some(raw)) = (mode(MD_T), cycle.raw) {
                     let [eq1, eq2, eq3] = after.coefficients();
                     let x = temperature_float(eq1, eq2, eq3, raw);
                     self.saw_if(x.is_nan(), Event::TemperatureNotANumber);
@@ -424,15 +503,26 @@ impl Coverage {
                 self.saw_if(stood, Event::LockAsItStood);
             }
             Command::Read { setting, .. } if number == 0 => {
-                self.saw_if(before.staged >> (setting - 1) & 1 == 1, Event::StagedValueRead);
-                self.saw_if((11..=13).contains(&setting), Event::CoefficientRead);
+                let row = setting as usize - 1;
+                self.saw_if(before.staged >> row & 1 == 1, Event::StagedValueRead);
+                self.saw_if(PAGE.settings[row].range == Range::Finite, Event::CoefficientRead);
             }
-            Command::Write { setting, .. } if number == 9 => {
-                self.saw_if((22..=25).contains(&setting), Event::ChoiceRefused);
-                self.saw_if((26..=29).contains(&setting), Event::WeightRefused);
+            Command::Write { setting, value, .. } if number == 0 || number == 9 => {
+                let row = setting as usize - 1;
+                self.observe_write(row, value, number == 0);
+                let refused = number == 9;
+                let choice = (FIRST_CHOICE..FIRST_WEIGHT).contains(&row);
+                self.saw_if(refused && choice, Event::ChoiceRefused);
+                self.saw_if(refused && row >= FIRST_WEIGHT, Event::WeightRefused);
             }
             Command::Tick { named } => self.observe_tick(named, number, before, after),
             Command::Commit { door } => {
+                if before.staged.count_ones() == 1 {
+                    let row = before.staged.trailing_zeros() as usize;
+                    let open = usize::from(after.open_locks());
+                    self.saw_row_if(number == 0, Family::AloneAccepted, row, open);
+                    self.saw_row_if(number == 10, Family::AloneRefused, row, open);
+                }
                 if number == 0 {
                     self.observe_new_settings(before, after);
                     self.saw_if(before.staged.count_ones() > 1, Event::CommitSeveral);
@@ -451,6 +541,25 @@ impl Coverage {
                 self.saw_if(number == 10 && !others, Event::LockMissingForOutput);
             }
             _ => {}
+        }
+    }
+
+    /// A value that was accepted or refused, by the row of its setting.
+    fn observe_write(&mut self, row: usize, value: Value, accepted: bool) {
+        let mut saw = |condition, family| self.saw_row_if(condition, family, row, 0);
+        match (PAGE.settings[row].range, value) {
+            (Range::Whole { low, high }, Value::Whole(value)) => {
+                saw(accepted && value == low, Family::LowestAccepted);
+                saw(accepted && value == high, Family::HighestAccepted);
+                saw(!accepted && value == low - 1, Family::BelowRefused);
+                saw(!accepted && value == high + 1, Family::AboveRefused);
+            }
+            (Range::Finite, Value::Coefficient(value)) => {
+                saw(accepted && value == f64::MIN, Family::LowestAccepted);
+                saw(accepted && value == f64::MAX, Family::HighestAccepted);
+                saw(!accepted && !value.is_finite(), Family::NotFiniteRefused);
+            }
+            _ => saw(!accepted, Family::WrongKindRefused),
         }
     }
 
@@ -503,7 +612,7 @@ impl Coverage {
     fn observe_new_settings(&mut self, before: &Before, after: &Device) {
         let (mut dropped, mut kept) = (false, false);
         for (place, old) in before.outputs.iter().enumerate() {
-            let rows = [21 + place, 25 + place];
+            let rows = [FIRST_CHOICE + place, FIRST_WEIGHT + place];
             let [choice_staged, weight_staged] = rows.map(|row| before.staged >> row & 1 == 1);
             let [choice_differs, weight_differs] =
                 rows.map(|row| before.settings[row] != after.settings[row]);
@@ -629,6 +738,15 @@ impl Coverage {
                 missing.push((*name).to_string());
             }
         }
+        for ((family, name), counts) in FAMILIES.iter().zip(&self.families) {
+            let members = family.members();
+            let all = members.len();
+            let mut left = members.into_iter().filter(|&(row, open)| counts[row][open] == 0);
+            if let Some(first) = left.next() {
+                let (first, others) = (family.name_of(first), left.count());
+                missing.push(format!("{name}: {} of {all}, the first {first}", 1 + others));
+            }
+        }
         if self.malformed == 0 {
             missing.push("malformed line".to_string());
         }
@@ -667,6 +785,14 @@ impl Coverage {
         let _ = writeln!(text, "How often each event was reached:");
         for (name, count) in EVENTS.iter().zip(&self.events) {
             let _ = writeln!(text, "{count:>9}  {name}");
+        }
+        let _ = writeln!(text, "The same for every row of the settings page, the least count:");
+        for ((family, name), counts) in FAMILIES.iter().zip(&self.families) {
+            let counts: Vec<u64> =
+                family.members().into_iter().map(|(row, open)| counts[row][open]).collect();
+            let least = counts.iter().min().unwrap_or(&0);
+            let reached = counts.iter().filter(|count| **count > 0).count();
+            let _ = writeln!(text, "{least:>9}  {name}: {reached} of {}", counts.len());
         }
         let missing = self.missing();
         if missing.is_empty() {
@@ -723,16 +849,14 @@ fn on_a_first(time: u64) -> Option<u64> {
 /// rounding. Only seen where temperature and K are fixed, which is where the
 /// generator brings it about.
 fn half_factor(device: &Device, p: Option<u64>) -> bool {
-    let whole = |setting| match device.in_force(setting) {
-        Value::Whole(value) => value,
-        Value::Coefficient(_) => 0,
-    };
+    let settings = &device.settings;
     let Some(p) = p else { return false };
-    if whole(5) != 0 || whole(6) != 0 || whole(4) != 1 || device.present != 0 {
+    let fixed = settings[MD_T] == 0 && settings[MD_K] == 0;
+    if !fixed || settings[MD_P] != 1 || device.present != 0 {
         return false;
     }
-    let (pb, tb, k) = (whole(2) as u64, whole(3) as u64, whole(16) as u64);
-    let t = (whole(15) + KELVIN) as u64;
+    let (pb, tb, k) = (settings[PB], settings[TB], settings[K_F]);
+    let t = (settings[T_F] as i64 + KELVIN) as u64;
     let denominator = u128::from(pb) * u128::from(t) * u128::from(k);
     let numerator = u128::from(p) * u128::from(tb) * 1_000_000_000;
     2 * (factor(p, pb, t, tb, k) * denominator).abs_diff(numerator) == denominator
@@ -773,9 +897,9 @@ impl Before {
         let session =
             if (1..=2).contains(&door) { Some(&device.sessions[door as usize - 1]) } else { None };
         let staged = session.map_or(0, |session| session.staged);
-        let after = |setting: usize| match session {
-            Some(session) if staged >> (setting - 1) & 1 == 1 => session.cells[setting - 1] as i64,
-            _ => device.settings[setting - 1] as i64,
+        let after = |row: usize| match session {
+            Some(session) if staged >> row & 1 == 1 => session.cells[row] as i64,
+            _ => device.settings[row] as i64,
         };
         let equal_value = session.is_some_and(|session| {
             (0..session.cells.len())
@@ -800,7 +924,7 @@ impl Before {
             staged,
             moved: session.map_or(0, |session| session.moved),
             equal_value,
-            pair: after(7) > after(8) || after(9) > after(10),
+            pair: PAGE.pairs.iter().any(|pair| after(pair.lower) > after(pair.upper)),
         }
     }
 }
@@ -809,6 +933,7 @@ impl Before {
 mod tests {
     use super::*;
     use crate::generate::{long_script, random_script, Rng};
+    use crate::walk::walk_script;
 
     /// The generator must reach everything within the steps of one run of the
     /// gate, whatever the seed.
@@ -817,6 +942,7 @@ mod tests {
         for seed in [1, 2, 3] {
             let mut rng = Rng::new(seed);
             let mut coverage = Coverage::new();
+            coverage.answer(&walk_script());
             coverage.answer(&long_script(&mut rng));
             let long = coverage.answered();
             while coverage.answered() < long + 200_000 {
@@ -824,6 +950,49 @@ mod tests {
             }
             assert_eq!(coverage.missing(), Vec::<String>::new(), "seed {seed}");
         }
+    }
+
+    /// The walk alone, which has no seed, reaches each member of each family:
+    /// each end at both doors, each commit once. No script comes where the
+    /// rows do not let it.
+    #[test]
+    fn the_walk_reaches_every_row() {
+        let mut coverage = Coverage::new();
+        coverage.answer(&walk_script());
+        let mut commits = 0;
+        for (place, (family, name)) in FAMILIES.iter().enumerate() {
+            assert_eq!(*family as usize, place);
+            let members = family.members();
+            let least = if family.is_of_commits() { 1 } else { 2 };
+            commits += if family.is_of_commits() { members.len() } else { 0 };
+            for (row, counts) in coverage.families[place].iter().enumerate() {
+                for (open, count) in counts.iter().enumerate() {
+                    let good =
+                        if members.contains(&(row, open)) { *count >= least } else { *count == 0 };
+                    assert!(good, "{name}: row {row}, locks {open}, {count} times");
+                }
+            }
+        }
+        assert_eq!(commits, SETTINGS * LOCK_SETS);
+    }
+
+    /// A family that was not reached is named once, whatever its size.
+    #[test]
+    fn missing_rows_are_named_by_family() {
+        let named = |coverage: &Coverage| -> Vec<String> {
+            let family = |text: &String| FAMILIES.iter().any(|(_, name)| text.starts_with(name));
+            coverage.missing().into_iter().filter(family).collect()
+        };
+        let mut coverage = Coverage::new();
+        let missing = named(&coverage);
+        assert_eq!(missing.len(), FAMILIES.len());
+        let all = PAGE.settings.len();
+        let first = format!("lowest value accepted: {all} of {all}, the first setting 1");
+        assert_eq!(missing[0], first);
+        let last = missing.last().expect("a family");
+        assert!(last.ends_with("the first setting 1 with locks [] open"), "{last}");
+        coverage.answer(&walk_script());
+        assert_eq!(named(&coverage), Vec::<String>::new());
     }
 
     /// The long script alone brings each total to its modulus exactly, with
@@ -883,6 +1052,7 @@ mod tests {
             while coverage.answered() < 200_000 {
                 coverage.answer(&random_script(&mut rng));
             }
+            // The events of request Three are the last.
             for event in Event::VmFollowed as usize..EVENTS.len() {
                 let count = coverage.events[event];
                 // No counter in litres comes so far in a random script.

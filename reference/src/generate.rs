@@ -9,12 +9,13 @@
 use crate::calendar::{first_midnight, first_second, month_of_time, SIX_O_CLOCK};
 use crate::command::{obey, Command};
 use crate::device::{
-    temperature_float, Cycle, Device, Range, Value, ARCHIVE_LINES, AUDIT_LINES, LOG_LINES, N_LIMIT,
-    PULSE, RULES, SETTINGS, TIME_LIMIT, VB_MODULUS, VM_MODULUS,
+    temperature_float, Cycle, Device, Value, ARCHIVE_LINES, AUDIT_LINES, EQ1, FIRST_WEIGHT,
+    LOG_LINES, N_LIMIT, PULSE, SETTINGS, TIME_LIMIT, VB_MODULUS, VM_MODULUS,
 };
 use crate::lines::{read_line, write_command, Line, LONGEST_LINE};
 use crate::output::{Output, BUFFER, OFF, OUTPUTS, TICK_LIMIT};
 use crate::script::Script;
+use crate::table::{Pair, Range, PAGE};
 
 /// A small generator of random numbers (SplitMix64): the same seed gives the
 /// same scripts on every machine.
@@ -133,10 +134,10 @@ pub fn long_script(rng: &mut Rng) -> Script {
     writer.say(Command::Start { time: 0, code2: codes[0], code3: codes[1] });
     writer.say(Command::Open { lock: 1, code: 0 });
     writer.put_in_force(1, &[(1, Value::Whole(4)), (6, Value::Whole(1))]);
-    // The outputs follow their counters through the rollover. Of each some 60
-    // pulses are due a cycle at most, which the ticks take again.
+    // The outputs follow their counters through the rollover. At the largest
+    // weights some 60 pulses are due of each a cycle, which the ticks take again.
     let choices = [1, 2, 3, 4].map(Value::Whole);
-    let weights = [999_999, 1_000_000, 999_983, 987_654].map(Value::Whole);
+    let weights = [1, 0, 17, 12_346].map(|less| Value::Whole(highest(26) - less));
     let outputs: Vec<(usize, Value)> = (22..).zip(choices.into_iter().chain(weights)).collect();
     writer.put_in_force(2, &outputs);
     // 60,000,000 litres a cycle, every second one disturbed, and six logbook
@@ -178,12 +179,11 @@ pub fn long_script(rng: &mut Rng) -> Script {
             writer.say(Command::Write { door, setting: setting as u64, value });
         }
         // The values were drawn apart, so the pairs are put in order.
-        for low in [7, 9] {
-            let mut ends = [writer.staged_whole(door, low), writer.staged_whole(door, low + 1)];
+        for pair in numbered_pairs() {
+            let mut ends = pair.map(|setting| writer.staged_whole(door, setting));
             ends.sort_unstable();
-            for (place, value) in ends.into_iter().enumerate() {
-                let setting = low as u64 + place as u64;
-                writer.say(Command::Write { door, setting, value: Value::Whole(value) });
+            for (setting, value) in pair.into_iter().zip(ends.map(Value::Whole)) {
+                writer.say(Command::Write { door, setting: setting as u64, value });
             }
         }
         writer.say(Command::Commit { door });
@@ -249,6 +249,20 @@ pub fn accepted_cycles(seed: u64, count: usize) -> Vec<Command> {
         }));
     }
     commands
+}
+
+/// The ends of a setting's range, by its number.
+fn lowest(setting: usize) -> i64 {
+    PAGE.settings[setting - 1].ends().0
+}
+
+fn highest(setting: usize) -> i64 {
+    PAGE.settings[setting - 1].ends().1
+}
+
+/// The pairs that are in order, by number: the lower and the upper of each.
+fn numbered_pairs() -> Vec<[usize; 2]> {
+    PAGE.pairs.iter().map(|Pair { lower, upper }| [lower + 1, upper + 1]).collect()
 }
 
 /// Writes a script and carries the device along.
@@ -450,26 +464,24 @@ impl<'a> Writer<'a> {
         }
     }
 
-    /// The pairs 7/8 and 9/10, staged apart and together, near each other.
+    /// The pairs, staged apart and together, near each other.
     fn pairs(&mut self, until: usize) {
+        let pairs = numbered_pairs();
         self.open_lock(1);
         while self.lines.len() < until {
             let door = 1 + self.rng.below(2);
-            let low = self.rng.pick(&[7, 9]);
-            let pivot = match RULES[low - 1].range {
-                Range::Whole { low, high } => self.rng.between(low + 2, high - 2),
-                Range::Finite => 0,
-            };
+            let [lower, upper] = self.rng.pick(&pairs);
+            let pivot = self.rng.between(lowest(lower) + 2, highest(lower) - 2);
             if !self.model.sessions[door as usize - 1].open {
                 self.say(Command::Begin { door });
             }
-            for setting in [low, low + 1] {
+            for setting in [lower, upper] {
                 if self.rng.percent(60) {
                     let near = self.rng.between(-1, 1);
                     let value = match self.rng.below(4) {
                         0 => self.whole_in_force(setting),
-                        1 => self.whole_in_force(low) + near,
-                        2 => self.whole_in_force(low + 1) + near,
+                        1 => self.whole_in_force(lower) + near,
+                        2 => self.whole_in_force(upper) + near,
                         _ => pivot + near,
                     };
                     let value = Value::Whole(value);
@@ -629,7 +641,7 @@ impl<'a> Writer<'a> {
     /// The temperature equation at its edges. What it gives shows in Vb.
     fn coefficients(&mut self, until: usize) {
         self.open_lock(1);
-        let limits = [(9, Value::Whole(-10_000)), (10, Value::Whole(20_000))];
+        let limits = [(9, Value::Whole(lowest(9))), (10, Value::Whole(highest(10)))];
         self.put_in_force(1, &[(1, Value::Whole(4)), (5, Value::Whole(1)), limits[0], limits[1]]);
         while self.lines.len() < until {
             let (set, raw) = if self.rng.percent(50) {
@@ -664,16 +676,16 @@ impl<'a> Writer<'a> {
         self.put_in_force(
             1,
             &[
-                (1, Value::Whole(4)),
-                (2, Value::Whole(90_000)),
-                (3, Value::Whole(29_815)),
+                (1, Value::Whole(highest(1))),
+                (2, Value::Whole(lowest(2))),
+                (3, Value::Whole(highest(3))),
                 (4, Value::Whole(1)),
                 (5, Value::Whole(0)),
                 (6, Value::Whole(0)),
-                (8, Value::Whole(10_000_000)),
-                (14, Value::Whole(10_000_000)),
-                (15, Value::Whole(-10_000)),
-                (16, Value::Whole(5_000)),
+                (8, Value::Whole(highest(8))),
+                (14, Value::Whole(highest(14))),
+                (15, Value::Whole(lowest(15))),
+                (16, Value::Whole(lowest(16))),
             ],
         );
         // At a litre a pulse more than 2^32 pulses are due in each cycle.
@@ -681,7 +693,7 @@ impl<'a> Writer<'a> {
             self.small_weights();
         }
         for _ in 0..20 + self.rng.below(90) {
-            self.pressure_cycle(N_LIMIT, |_| measured.then_some(10_000_000));
+            self.pressure_cycle(N_LIMIT, |_| measured.then_some(highest(8) as u64));
             if self.rng.percent(30) {
                 self.say(Command::Report);
             }
@@ -764,7 +776,7 @@ impl<'a> Writer<'a> {
                 (23, Value::Whole(4)),
                 (24, Value::Whole(5)),
                 (25, Value::Whole(3)),
-                (26, Value::Whole(1_000_000)),
+                (26, Value::Whole(highest(26))),
             ],
         );
         // The factor is 200, measured or not, so that a pulse of 100,000 litres
@@ -795,14 +807,14 @@ impl<'a> Writer<'a> {
                 (4, Value::Whole(1)),
                 (5, Value::Whole(0)),
                 (6, Value::Whole(0)),
-                (7, Value::Whole(10_000)),
-                (8, Value::Whole(10_000_000)),
+                (7, Value::Whole(lowest(7))),
+                (8, Value::Whole(highest(8))),
                 (15, Value::Whole(0)),
                 (16, Value::Whole(20_000)),
             ],
         );
         for _ in 0..5 + self.rng.below(20) {
-            self.pressure_cycle(1, |rng| Some(rng.between(10_000, 200_000) as u64));
+            self.pressure_cycle(1, |rng| Some(rng.between(lowest(7), 200_000) as u64));
             self.say(Command::Report);
         }
         self.back_to_factory(2, &[2, 5, 7, 8, 15, 16]);
@@ -978,8 +990,8 @@ impl<'a> Writer<'a> {
                 (4, Value::Whole(1)),
                 (5, Value::Whole(0)),
                 (6, Value::Whole(1)),
-                (7, Value::Whole(10_000)),
-                (8, Value::Whole(10_000_000)),
+                (7, Value::Whole(lowest(7))),
+                (8, Value::Whole(highest(8))),
                 (15, Value::Whole(0)),
                 (16, Value::Whole(10_000)),
             ],
@@ -993,7 +1005,7 @@ impl<'a> Writer<'a> {
         let mut values = Vec::new();
         for output in 0..OUTPUTS {
             if self.rng.percent(80) {
-                values.push((22 + output, Value::Whole(self.rng.between(1, 6))));
+                values.push((22 + output, Value::Whole(self.rng.between(1, highest(22)))));
                 values.push((26 + output, Value::Whole(self.weight())));
             }
         }
@@ -1007,7 +1019,8 @@ impl<'a> Writer<'a> {
         let totals = self.rng.percent(80);
         let mut values = Vec::new();
         for output in 0..OUTPUTS {
-            let choice = if totals { self.rng.pick(&[3, 6]) } else { self.rng.between(0, 6) };
+            let any = highest(22);
+            let choice = if totals { self.rng.pick(&[3, 6]) } else { self.rng.between(0, any) };
             values.push((22 + output, Value::Whole(choice)));
             values.push((26 + output, Value::Whole(self.rng.pick(&[1, 1, 1, 2, 3, 10]))));
         }
@@ -1113,19 +1126,20 @@ impl<'a> Writer<'a> {
         };
         let pulse = PULSE[self.whole_in_force(1) as usize];
         let pulses = gain.div_ceil(pulse);
+        let (least, most) = (lowest(7) as u64, highest(8) as u64);
         let (n, p) = if choice <= 3 {
-            (pulses, self.rng.between(10_000, 10_000_000) as u64)
+            (pulses, self.rng.between(lowest(7), highest(8)) as u64)
         } else {
             // What is called pulses here is n times the factor.
-            let n = pulses.div_ceil(10_000_000).max(1);
-            (n, pulses.div_ceil(n).max(10_000))
+            let n = pulses.div_ceil(most).max(1);
+            (n, pulses.div_ceil(n).max(least))
         };
         let time = self.model.time + self.rng.below(100);
         self.say(Command::Cycle(Cycle {
             time: time.min(TIME_LIMIT - 1),
             n: n.min(N_LIMIT),
             raw: None,
-            p: Some(p.min(10_000_000)),
+            p: Some(p.min(most)),
             k: (!disturbed).then_some(10_000),
         }));
     }
@@ -1165,7 +1179,7 @@ impl<'a> Writer<'a> {
 
     fn back_to_factory(&mut self, door: u64, settings: &[usize]) {
         let factory: Vec<(usize, Value)> =
-            settings.iter().map(|setting| (*setting, RULES[setting - 1].factory)).collect();
+            settings.iter().map(|setting| (*setting, PAGE.settings[setting - 1].factory)).collect();
         self.put_in_force(door, &factory);
     }
 
@@ -1247,15 +1261,12 @@ impl<'a> Writer<'a> {
                 3 => Some(p_min - 1),
                 4 => Some(p_max),
                 5 => Some(p_max + 1),
-                6 => Some(self.rng.pick(&[
-                    0,
-                    9_999,
-                    10_000,
-                    10_000_001,
-                    u64::MAX,
-                    (1 << 32) + p_min,
-                ])),
-                _ => Some(self.rng.between(10_000, 10_000_000) as u64),
+                6 => {
+                    let (least, most) = (lowest(7) as u64, highest(8) as u64);
+                    let odd = [0, least - 1, least, most + 1, u64::MAX, (1 << 32) + p_min];
+                    Some(self.rng.pick(&odd))
+                }
+                _ => Some(self.rng.between(lowest(7), highest(8)) as u64),
             };
         }
         if self.rng.percent(60) {
@@ -1433,20 +1444,21 @@ impl<'a> Writer<'a> {
 
     /// A value that the setting takes.
     fn good_value(&mut self, setting: usize) -> Value {
-        match RULES[setting - 1].range {
-            Range::Whole { low, high } => Value::Whole(match self.rng.below(10) {
-                0 => low,
-                1 => high,
-                2 => (self.whole_in_force(setting) + self.rng.between(-1, 1)).clamp(low, high),
-                3 | 4 => match RULES[setting - 1].factory {
-                    Value::Whole(value) => value,
-                    Value::Coefficient(_) => low,
-                },
-                _ => self.rng.between(low, high),
-            }),
+        let row = &PAGE.settings[setting - 1];
+        match row.range {
+            Range::Whole { low, high } => match self.rng.below(10) {
+                0 => Value::Whole(low),
+                1 => Value::Whole(high),
+                2 => {
+                    let near = self.whole_in_force(setting) + self.rng.between(-1, 1);
+                    Value::Whole(near.clamp(low, high))
+                }
+                3 | 4 => row.factory,
+                _ => Value::Whole(self.rng.between(low, high)),
+            },
             Range::Finite => {
                 let set = self.coefficient_set();
-                Value::Coefficient(set[setting - 11])
+                Value::Coefficient(set[setting - 1 - EQ1])
             }
         }
     }
@@ -1478,8 +1490,7 @@ impl<'a> Writer<'a> {
             ];
             Value::Coefficient(rng.pick(&floats))
         };
-        let rule = &RULES[setting - 1];
-        match (rule.range, self.rng.below(10)) {
+        match (PAGE.settings[setting - 1].range, self.rng.below(10)) {
             (Range::Whole { low, .. }, 0..=2) => Value::Whole(low - 1),
             (Range::Whole { high, .. }, 3..=5) => Value::Whole(high + 1),
             (Range::Whole { .. }, 6 | 7) => odd_whole(self.rng),
@@ -1491,14 +1502,15 @@ impl<'a> Writer<'a> {
         }
     }
 
-    /// A value for one of the settings 22 to 29.
+    /// A value for a choice or a weight.
     fn output_value(&mut self, setting: usize) -> Value {
+        let is_choice = setting - 1 < FIRST_WEIGHT;
         match self.rng.below(20) {
             0..=6 => self.model.in_force(setting),
             7 => self.good_value(setting),
             8 => self.any_value(setting),
-            9 | 10 if setting < 26 => Value::Whole(0),
-            _ if setting < 26 => Value::Whole(self.rng.between(1, 6)),
+            9 | 10 if is_choice => Value::Whole(OFF as i64),
+            _ if is_choice => Value::Whole(self.rng.between(1, highest(setting))),
             _ => Value::Whole(self.weight()),
         }
     }
@@ -1511,7 +1523,7 @@ impl<'a> Writer<'a> {
             5..=7 => self.rng.pick(&[11, 21, 101, 1_001, 10_001, 100_001]),
             8 => self.rng.between(1, 20),
             9 | 10 => self.rng.between(1, 1_000),
-            _ => self.rng.pick(&[999_999, 1_000_000]),
+            _ => self.rng.pick(&[highest(26) - 1, highest(26)]),
         }
     }
 

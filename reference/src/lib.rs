@@ -1,5 +1,5 @@
-//! The corrector of document 01, with requests One, Two and Three of document
-//! 02, as a plain Rust program.
+//! The corrector of document 01, with requests One to Four of document 02, as a
+//! plain Rust program.
 //!
 //! It was written from these documents and not from the Rattle code, so that
 //! the two can be compared: a slip would have to be made twice, in two
@@ -16,4 +16,6 @@ pub mod lines;
 pub mod output;
 pub mod script;
 pub mod shrink;
+pub mod table;
 pub mod usage;
+pub mod walk;

@@ -67,7 +67,7 @@ fn weights_in_litres() {
         (1, 1, [0, 100]),
         (7, 1, [200_000, 14]),
         (100, 600, [0, 600]),
-        (1_000_000, 600, [6_000_000_000, 0]),
+        (900_000, 600, [6_000_000_000, 0]),
         (60_000, 600, [0, 1]),
         (60_001, 600, [6_000_000_000, 0]),
         (59_999, 600, [100_000, 1]),
@@ -302,7 +302,7 @@ fn what_a_commit_drops() {
     assert_eq!(account_after(&[(22, 4), (26, 100), (23, 0)]), [dropped, dropped]);
     // The other outputs' settings, and settings of nobody's.
     assert_eq!(account_after(&[(24, 5), (25, 1), (28, 7), (29, 8)]), [kept, kept]);
-    assert_eq!(account_after(&[(1, 4), (2, 90_000), (14, 20_000), (21, 5)]), [kept, kept]);
+    assert_eq!(account_after(&[(1, 4), (2, 100_000), (14, 20_000), (21, 5)]), [kept, kept]);
     // Written over before the commit: only what is put in force counts.
     assert_eq!(account_after(&[(26, 5), (26, 70)]), [kept, kept]);
     assert_eq!(account_after(&[(26, 70), (26, 5)]), [dropped, kept]);

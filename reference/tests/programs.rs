@@ -9,6 +9,8 @@ use std::process::{Command, Output};
 
 use corrector_reference::cases;
 use corrector_reference::coverage::Coverage;
+use corrector_reference::table::PAGE;
+use corrector_reference::walk::walk_script;
 
 const ANSWER: &str = env!("CARGO_BIN_EXE_answer");
 
@@ -54,10 +56,15 @@ fn no_difference_to_itself() {
     assert_eq!(output.status.code(), Some(0), "{}", text(&output));
     let text = text(&output);
     assert!(text.starts_with("seed 1\n"), "{text}");
+    let walk = format!("\nwalk over the settings page of {} steps: ", walk_script().lines.len());
+    assert!(text.contains(&walk), "{text}");
     assert!(text.contains("How often each command had each answer"), "{text}");
+    let all = PAGE.settings.len();
+    assert!(text.contains(&format!("  lowest value accepted: {all} of {all}\n")), "{text}");
     assert!(text.trim_end().ends_with("no difference (seed 1)"), "{text}");
     let output = compare(&["--bench", ANSWER, "--fuzz", "20000"]);
     assert_eq!(output.status.code(), Some(0), "{}", String::from_utf8_lossy(&output.stdout));
+    assert!(String::from_utf8_lossy(&output.stdout).contains(&walk));
 }
 
 #[test]
@@ -79,6 +86,36 @@ fn a_wrong_answer_is_found_and_cut_down() {
     // Lock, begin, read, begin, write, commit, commit and the bench's answer.
     assert!(story.len() <= 8, "{out}");
     assert!(story.last().unwrap().contains("the bench: 0"), "{out}");
+}
+
+/// What the walk over the settings page finds of a bench, without a case and
+/// without a random step.
+#[track_caller]
+fn walk_finds(name: &str, shell: &str) -> String {
+    let empty = PathBuf::from(env!("CARGO_TARGET_TMPDIR")).join(format!("no-cases-of-{name}"));
+    fs::create_dir_all(&empty).unwrap();
+    finds(name, shell, &["--cases", empty.to_str().unwrap(), "--no-long", "--steps", "0"])
+}
+
+/// The highest value of one setting is out of range on the bench.
+#[test]
+fn the_walk_finds_a_wrong_end_of_a_range() {
+    for setting in [17, 29] {
+        let (_, high) = PAGE.settings[setting - 1].ends();
+        let shell = format!("sed -u 's/ {setting} w {high}$/&0/' | ANSWER");
+        let out = walk_finds(&format!("wrong-end-of-{setting}"), &shell);
+        // Begin and write.
+        assert!(out.contains("the shortest script found, 2 lines"), "{out}");
+        assert!(out.contains("the bench: 9"), "{out}");
+    }
+}
+
+/// No lock is ever missing on the bench.
+#[test]
+fn the_walk_finds_a_wrong_right() {
+    let out = walk_finds("never-missing", "ANSWER | sed -u 's/^10$/0/'");
+    assert!(out.contains("-> 10\n"), "{out}");
+    assert!(out.contains("the bench: 0"), "{out}");
 }
 
 #[test]
@@ -136,6 +173,8 @@ fn speed_prints_its_table() {
 
 /// The workloads are the same lines since before request Three, so that figures
 /// can be compared from one request to the next. The sums are FNV-1a of 64 bits.
+/// The values of writes are left out: they are drawn from the ranges of the
+/// settings page, and may change with it.
 #[test]
 fn the_workloads_of_speed_stay_as_they_are() {
     let folder = PathBuf::from(env!("CARGO_TARGET_TMPDIR")).join("workloads");
@@ -144,10 +183,15 @@ fn the_workloads_of_speed_stay_as_they_are() {
         .output()
         .expect("speed runs");
     assert!(output.status.success());
-    for (name, sum) in [("cycles", 0x080b_0119_c4f9_1c4b), ("mixed", 0x3273_e7c7_cd74_a499)] {
-        let lines = fs::read(folder.join(name).with_extension("txt")).unwrap();
-        let found = lines.iter().fold(0xcbf2_9ce4_8422_2325_u64, |sum, byte| {
-            (sum ^ u64::from(*byte)).wrapping_mul(0x100_0000_01b3)
+    for (name, sum) in [("cycles", 0x080b_0119_c4f9_1c4b), ("mixed", 0x4a02_8ce6_a710_92d3)] {
+        let lines = fs::read_to_string(folder.join(name).with_extension("txt")).unwrap();
+        let without_value = |line: &str| match line.rsplit_once(' ') {
+            Some((rest, _)) if line.starts_with("write ") => format!("{rest}\n"),
+            _ => format!("{line}\n"),
+        };
+        let lines: String = lines.lines().map(without_value).collect();
+        let found = lines.bytes().fold(0xcbf2_9ce4_8422_2325_u64, |sum, byte| {
+            (sum ^ u64::from(byte)).wrapping_mul(0x100_0000_01b3)
         });
         assert_eq!(found, sum, "{name}");
     }

@@ -1,10 +1,13 @@
 //! Each refusal of each command, which of several comes first, and that a
-//! refusal changes nothing. Refusals 1 and 14 cannot be had through commands;
-//! the tests beside the device make states for the first.
+//! refusal changes nothing. Ranges, factory values and rights are walked over
+//! the rows of the settings page. Refusals 1 and 14 cannot be had through
+//! commands; the tests beside the device make states for the first.
 
 mod common;
 
-use common::{tell, Teller};
+use common::{shown, tell, Teller};
+use corrector_reference::device::Value;
+use corrector_reference::table::{Range, Setting, LOCKS, LOCK_SETS, PAGE};
 
 #[test]
 fn start() {
@@ -103,65 +106,66 @@ fn write() {
         ("write 1 30 w 9", "3"),
         ("write 1 22 w 9", "9"),
         ("write 1 29 c 4059000000000000", "9"),
-        ("write 1 1 w 5", "9"),
+        ("write 1 1 w 9", "9"),
         ("write 1 1 c 0000000000000000", "9"),
         ("write 1 12 w 0", "9"),
         ("write 1 12 c 7ff0000000000000", "9"),
         ("write 1 12 c fff8000000000001", "9"),
-        ("write 1 1 w 4", "0"),
+        ("write 1 1 w 3", "0"),
         ("write 1 12 c 0000000000000001", "0"),
         // A refused write leaves the staged value.
-        ("write 1 1 w 5", "9"),
-        ("read 1 1", "0 w 4"),
+        ("write 1 1 w 9", "9"),
+        ("read 1 1", "0 w 3"),
     ]);
 }
 
-/// The ends of every range, and the numbers beside them.
+/// Values to try of a setting, in this order, with the answers they must have.
+fn tried(setting: &Setting) -> Vec<(Value, &'static str)> {
+    match setting.range {
+        Range::Whole { low, high } => vec![
+            (Value::Whole(low - 1), "9"),
+            (Value::Whole(low), "0"),
+            (Value::Whole(high), "0"),
+            (Value::Whole(high + 1), "9"),
+            (Value::Whole(i64::MIN), "9"),
+            (Value::Whole(i64::MAX), "9"),
+            (Value::Coefficient(high as f64), "9"),
+            (Value::Coefficient(f64::from_bits(high as u64)), "9"),
+        ],
+        Range::Finite => vec![
+            (Value::Coefficient(f64::MIN), "0"),
+            (Value::Coefficient(f64::MAX), "0"),
+            (Value::Coefficient(f64::from_bits(1)), "0"),
+            (Value::Coefficient(-0.0), "0"),
+            (Value::Coefficient(f64::INFINITY), "9"),
+            (Value::Coefficient(f64::NEG_INFINITY), "9"),
+            (Value::Coefficient(f64::NAN), "9"),
+            (Value::Coefficient(f64::from_bits(0x7ff0_0000_0000_0001)), "9"),
+            (Value::Coefficient(f64::from_bits(u64::MAX)), "9"),
+            (Value::Whole(0), "9"),
+            (Value::Whole(i64::MAX), "9"),
+        ],
+    }
+}
+
+/// Every row of the settings page: both ends, the numbers beside them, the
+/// wrong kind, and floats that are not finite. What was accepted last is staged.
 #[test]
 fn ranges() {
-    let ranges: [(u32, i64, i64); 26] = [
-        (1, 0, 4),
-        (2, 90_000, 110_000),
-        (3, 27_315, 29_815),
-        (4, 0, 1),
-        (5, 0, 1),
-        (6, 0, 1),
-        (7, 10_000, 10_000_000),
-        (8, 10_000, 10_000_000),
-        (9, -10_000, 20_000),
-        (10, -10_000, 20_000),
-        (14, 10_000, 10_000_000),
-        (15, -10_000, 20_000),
-        (16, 5_000, 20_000),
-        (17, 5_000, 14_000),
-        (18, 0, 3_000),
-        (19, 0, 1_000),
-        (20, 6_000, 12_000),
-        (21, 0, 999_999_999),
-        (22, 0, 6),
-        (23, 0, 6),
-        (24, 0, 6),
-        (25, 0, 6),
-        (26, 1, 1_000_000),
-        (27, 1, 1_000_000),
-        (28, 1, 1_000_000),
-        (29, 1, 1_000_000),
-    ];
-    let mut teller = Teller::new();
-    teller.done(&["begin 2"]);
-    for (setting, low, high) in ranges {
-        for (value, answer) in [
-            (low - 1, "9"),
-            (low, "0"),
-            (high, "0"),
-            (high + 1, "9"),
-            (i64::MIN, "9"),
-            (i64::MAX, "9"),
-        ] {
-            let line = format!("write 2 {setting} w {value}");
-            assert_eq!(teller.say(&line), answer, "{line}");
+    for door in [1, 2] {
+        let mut teller = Teller::new();
+        teller.done(&[&format!("begin {door}")]);
+        for setting in &PAGE.settings {
+            let number = setting.number;
+            let mut staged = setting.factory;
+            for (value, answer) in tried(setting) {
+                let line = format!("write {door} {number} {}", shown(value));
+                assert_eq!(teller.say(&line), answer, "{line}");
+                staged = if answer == "0" { value } else { staged };
+                let read = teller.say(&format!("read {door} {number}"));
+                assert_eq!(read, format!("0 {}", shown(staged)), "after {line}");
+            }
         }
-        assert_eq!(teller.say(&format!("read 2 {setting}")), format!("0 w {high}"));
     }
 }
 
@@ -169,39 +173,45 @@ fn ranges() {
 fn factory_settings() {
     let mut teller = Teller::new();
     teller.done(&["begin 1"]);
-    let factory = [
-        "w 1",
-        "w 101325",
-        "w 27315",
-        "w 1",
-        "w 1",
-        "w 0",
-        "w 90000",
-        "w 700000",
-        "w -2000",
-        "w 6000",
-        "c c044000000000000",
-        "c 3f80000000000000",
-        "c 0000000000000000",
-        "w 101325",
-        "w 1500",
-        "w 10000",
-        "w 11000",
-        "w 100",
-        "w 0",
-        "w 8000",
-        "w 0",
-        "w 0",
-        "w 0",
-        "w 0",
-        "w 0",
-        "w 100",
-        "w 100",
-        "w 100",
-        "w 100",
-    ];
-    for (setting, value) in (1..).zip(factory) {
-        assert_eq!(teller.say(&format!("read 1 {setting}")), format!("0 {value}"));
+    for setting in &PAGE.settings {
+        let answer = teller.say(&format!("read 1 {}", setting.number));
+        assert_eq!(answer, format!("0 {}", shown(setting.factory)), "{}", setting.name);
+    }
+}
+
+/// A device on which these locks are open; bit l - 1 is lock l.
+fn with_open_locks(open: u8) -> Teller {
+    let mut teller = Teller::new();
+    for lock in (1..=LOCKS).filter(|lock| open >> (lock - 1) & 1 == 1) {
+        teller.done(&[&format!("open {lock} 0")]);
+    }
+    teller
+}
+
+/// Every setting alone with every set of open locks: it is put in force exactly
+/// if one of the locks in its lock's row is open.
+#[test]
+fn rights() {
+    for setting in &PAGE.settings {
+        for open in 0..LOCK_SETS as u8 {
+            let mut teller = with_open_locks(open);
+            let value = shown(setting.factory);
+            teller.done(&["begin 1", &format!("write 1 {} {value}", setting.number)]);
+            let right = setting.lock.any_of & open != 0;
+            let answer = if right { "0" } else { "10" };
+            assert_eq!(teller.say("commit 1"), answer, "{}, locks {open}", setting.name);
+            assert_eq!(teller.say("audit 0") == "13", !right);
+        }
+    }
+}
+
+/// A clear needs what its own row among the locks says.
+#[test]
+fn right_to_clear() {
+    let clear = PAGE.lock("Clear").expect("a row of locks");
+    for open in 0..LOCK_SETS as u8 {
+        let answer = if clear.any_of & open != 0 { "0" } else { "10" };
+        assert_eq!(with_open_locks(open).say("clear"), answer, "locks {open}");
     }
 }
 
@@ -373,8 +383,8 @@ fn a_refusal_changes_nothing() {
         ("write 2 1 w 0", "4"),
         ("write 1 1 w 9", "9"),
         ("write 1 99 w 9", "3"),
-        ("write 1 25 w 7", "9"),
-        ("write 1 26 w 0", "9"),
+        ("write 1 25 w 99", "9"),
+        ("write 1 26 w -5", "9"),
         ("commit 2", "4"),
         ("commit 9", "3"),
         ("abandon 2", "4"),

@@ -1,8 +1,9 @@
-//! Sessions: staging, rights, staleness, audit lines.
+//! Sessions: staging, when rights count, staleness, audit lines.
 
 mod common;
 
-use common::{tell, Teller};
+use common::{shown, tell, Teller};
+use corrector_reference::table::PAGE;
 
 /// A session at door 1 with the given steps, while door 2 puts setting 16 in
 /// force where a step says so. Gives the answer of door 1's commit.
@@ -56,15 +57,15 @@ fn stale_by_an_output() {
     for setting in 22..=29 {
         // 1 is in both ranges.
         let (read, write) = (format!("read 1 {setting}"), format!("write 2 {setting} w 1"));
-        let factory = if setting <= 25 { 0 } else { 100 };
+        let factory = shown(PAGE.settings[setting - 1].factory);
         let mut teller = Teller::new();
         teller.done(&["open 2 0", "begin 1", "begin 2", &write]);
-        teller.tell(&[(&read, &format!("0 w {factory}"))]);
+        teller.tell(&[(&read, &format!("0 {factory}"))]);
         // A tick and a cycle in between change nothing of it.
         teller.tell(&[("tick 600", "0 0 0 0 0"), ("cycle 0 1 5120 101325 -", "0")]);
         teller.done(&["commit 2"]);
         teller.tell(&[(&read, "0 w 1"), ("commit 1", "11")]);
-        let line = format!("0 0 0 2 {setting} w {factory} w 1");
+        let line = format!("0 0 0 2 {setting} {factory} w 1");
         teller.tell(&[("audit 0", &line), ("audit 1", "13")]);
         // Read anew it is not stale.
         teller.done(&["begin 1"]);
@@ -79,7 +80,7 @@ fn audit_lines_of_the_outputs() {
         ("start 42 7 0", "0"),
         ("open 2 7", "0"),
         ("begin 2", "0"),
-        ("write 2 29 w 1000000", "0"),
+        ("write 2 29 w 250000", "0"),
         ("write 2 25 w 6", "0"),
         ("write 2 26 w 100", "0"),
         ("write 2 22 w 1", "0"),
@@ -88,7 +89,7 @@ fn audit_lines_of_the_outputs() {
         ("audit 3", "0 0 42 2 22 w 0 w 1"),
         ("audit 2", "0 1 42 2 25 w 0 w 6"),
         ("audit 1", "0 2 42 2 26 w 100 w 100"),
-        ("audit 0", "0 3 42 2 29 w 100 w 1000000"),
+        ("audit 0", "0 3 42 2 29 w 100 w 250000"),
     ]);
 }
 
@@ -205,50 +206,6 @@ fn staged_values_are_not_in_force() {
     ]);
 }
 
-/// Every right with every set of open locks.
-#[test]
-fn rights() {
-    let good = |setting: u32| match setting {
-        1 => "w 1",
-        2 => "w 101325",
-        3 => "w 27315",
-        4..=6 => "w 1",
-        7 => "w 90000",
-        8 => "w 700000",
-        9 => "w -2000",
-        10 => "w 6000",
-        11..=13 => "c 0000000000000000",
-        14 => "w 101325",
-        15 => "w 1500",
-        16 => "w 10000",
-        17 => "w 11000",
-        18 | 19 => "w 0",
-        20 => "w 8000",
-        26..=29 => "w 100",
-        _ => "w 0",
-    };
-    for setting in 1..=29 {
-        for locks in 0..8 {
-            let mut teller = Teller::new();
-            for lock in 1..=3 {
-                if locks >> (lock - 1) & 1 == 1 {
-                    teller.done(&[&format!("open {lock} 0")]);
-                }
-            }
-            teller.done(&["begin 1", &format!("write 1 {setting} {}", good(setting))]);
-            let (one, two, three) = (locks & 1 != 0, locks & 2 != 0, locks & 4 != 0);
-            let allowed = match setting {
-                1..=13 => one,
-                21 => one || two || three,
-                _ => one || two,
-            };
-            let answer = if allowed { "0" } else { "10" };
-            assert_eq!(teller.say("commit 1"), answer, "setting {setting}, locks {locks}");
-            assert_eq!(teller.say("audit 0") == "13", !allowed);
-        }
-    }
-}
-
 #[test]
 fn rights_count_at_the_commit() {
     tell(&[
@@ -283,9 +240,9 @@ fn audit_lines_in_order_of_number() {
         ("audit 4", "13"),
         ("cycle 100 0 - - -", "0"),
         ("begin 1", "0"),
-        ("write 1 9 w -9999", "0"),
+        ("write 1 9 w -2500", "0"),
         ("commit 1", "0"),
-        ("audit 0", "0 4 100 1 9 w -2000 w -9999"),
+        ("audit 0", "0 4 100 1 9 w -2000 w -2500"),
     ]);
 }
 
@@ -311,7 +268,7 @@ fn pairs_as_they_would_stand() {
     assert_eq!(commit(&["10 w -2000"]), "0");
     assert_eq!(commit(&["10 w -2001"]), "12");
     assert_eq!(commit(&["9 w -9000", "10 w -9000"]), "0");
-    assert_eq!(commit(&["9 w 20000", "10 w 19999"]), "12");
+    assert_eq!(commit(&["9 w 15000", "10 w 14999"]), "12");
     // One pair in order does not help the other.
     assert_eq!(commit(&["7 w 80000", "8 w 80000", "9 w 6001"]), "12");
     // What the other door has put in force meanwhile counts.

@@ -12,14 +12,16 @@ use corrector_reference::generate::{fuzz_script, giant_script, long_script, rand
 use corrector_reference::script::{show, Script};
 use corrector_reference::shrink::shrink;
 use corrector_reference::usage::options_or_end;
+use corrector_reference::walk::walk_script;
 
 const USAGE: &str = "\
 usage: compare --bench PROGRAM [--steps N] [--seed S] [options]
        compare --bench PROGRAM --fuzz N [--seed S] [options]
        compare --coverage [--steps N] [--seed S]
 
-Runs the kept cases, one long script and random scripts on PROGRAM and on the
-reference, and stops at the first line that differs.
+Runs the kept cases, a walk over the rows of the settings page, one long script
+and random scripts on PROGRAM and on the reference, and stops at the first line
+that differs.
 
   --bench PROGRAM   the program that answers the lines; without it the
                     reference runs alone, which is of use with --coverage
@@ -163,6 +165,7 @@ impl Comparison {
         if self.options.cases_only {
             return Ok(());
         }
+        self.walk()?;
         let mut rng = Rng::new(self.options.seed);
         if let Some(malformed) = self.options.fuzz {
             self.fuzz(&mut rng, malformed)?;
@@ -209,6 +212,15 @@ impl Comparison {
             }
         }
         println!("{} kept cases: no difference", cases.len());
+        Ok(())
+    }
+
+    /// The rows of the settings page, the same at every run.
+    fn walk(&mut self) -> Result<(), Stop> {
+        let before = self.coverage.answered();
+        self.compare(&walk_script())?;
+        let steps = self.coverage.answered() - before;
+        println!("walk over the settings page of {steps} steps: no difference");
         Ok(())
     }
 

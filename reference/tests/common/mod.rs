@@ -3,7 +3,7 @@
 // Each file of tests takes what it needs and leaves the rest.
 #![allow(dead_code)]
 
-use corrector_reference::device::Device;
+use corrector_reference::device::{Device, Value};
 use corrector_reference::lines::answer_line;
 
 /// A device that is given lines.
@@ -49,6 +49,14 @@ impl Teller {
         }
         seen.push(self.say("outputs"));
         seen
+    }
+}
+
+/// A value as the lines have it.
+pub fn shown(value: Value) -> String {
+    match value {
+        Value::Whole(number) => format!("w {number}"),
+        Value::Coefficient(float) => format!("c {:016x}", float.to_bits()),
     }
 }
 
