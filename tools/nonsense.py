@@ -4,7 +4,7 @@
     python3 tools/nonsense.py > crates/nonsense/stdout
 
 Nothing here comes from the program or from its crates: which states are whole, and which refusals apply to a command, is worked out again
-from documents 01 and 02. The trials are those of crates/nonsense/src, in the same order. At the end it is asked that every two reasons that can
+from documents 01 and 02, the settings from their table (docs/SETTINGS.md). The trials are those of crates/nonsense/src, in the same order. At the end it is asked that every two reasons that can
 hold together were tried together, on each command.
 """
 import struct
@@ -13,45 +13,20 @@ from fractions import Fraction
 from itertools import combinations
 from math import floor, inf, isfinite, nan
 
+from settings import OPENING, PAIRS, ROWS
 from vectors import END_OF_TIME, month_of
 
 MOST = 2**64 - 1
 LITRES, BASE_UNITS = 10**12, 10**17
 LINES = {"archive": 15, "log": 250, "audit": 200}
 
-# ---- the table of settings: range, factory value, lock
+# ---- the table of settings
 
-CAL, SUP, CUST = 1, 2, 3
-FINITE = None
-TABLE = {
-    1: ((0, 4), 1, CAL),
-    2: ((90_000, 110_000), 101_325, CAL),
-    3: ((27_315, 29_815), 27_315, CAL),
-    4: ((0, 1), 1, CAL),
-    5: ((0, 1), 1, CAL),
-    6: ((0, 1), 0, CAL),
-    7: ((10_000, 10_000_000), 90_000, CAL),
-    8: ((10_000, 10_000_000), 700_000, CAL),
-    9: ((-10_000, 20_000), -2_000, CAL),
-    10: ((-10_000, 20_000), 6_000, CAL),
-    11: (FINITE, -40.0, CAL),
-    12: (FINITE, 0.0078125, CAL),
-    13: (FINITE, 0.0, CAL),
-    14: ((10_000, 10_000_000), 101_325, SUP),
-    15: ((-10_000, 20_000), 1_500, SUP),
-    16: ((5_000, 20_000), 10_000, SUP),
-    17: ((5_000, 14_000), 11_000, SUP),
-    18: ((0, 3_000), 100, SUP),
-    19: ((0, 1_000), 0, SUP),
-    20: ((6_000, 12_000), 8_000, SUP),
-    21: ((0, 999_999_999), 0, CUST),
-}
-# the four outputs: what each follows, then the litres a pulse of each
-OUTPUTS, CHOICE, WEIGHT = 4, 22, 26
-for k in range(OUTPUTS):
-    TABLE[CHOICE + k] = ((0, 6), 0, SUP)
-for k in range(OUTPUTS):
-    TABLE[WEIGHT + k] = ((1, 1_000_000), 100, SUP)
+TABLE = {row.number: row for row in ROWS}
+NAMED = {row.name: row.number for row in ROWS}
+# the last setting, and the number of none; the four outputs: what each follows, then the litres a pulse of each
+LAST, NONE = len(ROWS), len(ROWS) + 1
+OUTPUTS, CHOICE, WEIGHT = 4, NAMED["choice of output 1"], NAMED["weight of output 1"]
 
 # a litre in the unit of the counter that is followed: 1 to 3 are Vm, VmD, VmT; 4 to 6 are Vb, VbD, VbT
 LITRE = {1: 1, 2: 1, 3: 1, 4: 100_000, 5: 100_000, 6: 100_000}
@@ -62,18 +37,18 @@ def fits(setting, v):
         return False
     if setting not in TABLE:
         return True
-    span = TABLE[setting][0]
-    if span is FINITE:
+    ends = TABLE[setting].ends
+    if ends is None:
         return isinstance(v, float)
-    return isinstance(v, int) and span[0] <= v <= span[1]
+    return isinstance(v, int) and ends[0] <= v <= ends[1]
 
 
 def right(lock, open_locks):
-    return bool(open_locks & {CAL: {1}, SUP: {1, 2}, CUST: {1, 2, 3}}[lock])
+    return bool(open_locks & OPENING[lock])
 
 
 def in_order(settings):
-    return settings[7] <= settings[8] and settings[9] <= settings[10]
+    return all(settings[low] <= settings[high] for low, high in PAIRS)
 
 
 # ---- states
@@ -95,7 +70,7 @@ class State:
         self.counters = [LITRES - 1, 5_000, 4_999, BASE_UNITS - 1, 700, 699]
         self.alarms, self.latches = [True, False, False], [True, True, False]
         self.open, self.codes = {1}, {2: 1234, 3: 98_765}
-        self.settings = {n: row[1] for n, row in TABLE.items()}
+        self.settings = {n: row.factory for n, row in TABLE.items()}
         self.settings.update({22: 3, 23: 6, 25: 2, 27: 250, 29: 1_000_000})
         self.outputs = [[99, 7, 3], [24_999_999, 65_535, 2**32 - 1], [0, 2, 1], [5, 0, 0]]
         self.archive, self.log, self.audit = (15, 3), (250, 7, 257), (12, 12, 12)
@@ -260,7 +235,7 @@ def reasons(command, s, args, lengths={}):
     own = {
         "open": lambda lock, code: {"lock": lock not in (1, 2, 3), "code": lock in (2, 3) and code != s.codes[lock]},
         "shut": lambda lock: {"lock": lock not in (1, 2, 3)},
-        "clear": lambda: {"right": not s.open & {1, 2}},
+        "clear": lambda: {"right": not right("Clear", s.open)},
         "report": lambda: {},
         "outputs": lambda: {},
         "tick": lambda n: {"long": n > 600},
@@ -281,7 +256,7 @@ def reasons(command, s, args, lengths={}):
 
 
 def rights(s, session):
-    return all(right(TABLE[k][2], s.open) for k in session.staged)
+    return all(right(TABLE[k].lock, s.open) for k in session.staged)
 
 
 # ---- what each command is seen to do
@@ -313,19 +288,18 @@ GIVES_VALUE = ("report", "outputs", "tick", "log", "archive", "audit", "read")
 tried = set()
 
 
-def shown(v):
-    if isinstance(v, int):
-        return str(v)
-    return "float nan" if v != v else "float " + struct.pack(">d", v).hex()
+def typed_value(v):
+    """A value in the bench's form. A NaN has no one form."""
+    return "w %d" % v if isinstance(v, int) else "c nan" if v != v else "c " + struct.pack(">d", v).hex()
 
 
 def typed(command, args):
     """The command in the bench's form."""
-    words = [command] + [("c " + struct.pack(">d", a).hex() if isinstance(a, float) else "w %d" % a) if command == "write" and k == 2 else str(a) for k, a in enumerate(args)]
+    words = [command] + [typed_value(a) if command == "write" and k == 2 else str(a) for k, a in enumerate(args)]
     return " ".join(words + (["%d %d -" % (RAW, PASCALS)] if command == "cycle" else []))
 
 
-def line(command, s, args, lengths={}, clause=False):
+def line(command, s, args, lengths={}, clause=False, spoken=None):
     # Where only a clause of "whole" is tried, what else applies does not matter: 1 comes first.
     why = ["not-whole"] if clause and not whole(s) else reasons(command, s, args, lengths)
     tried.add((command, tuple(why)))
@@ -333,7 +307,7 @@ def line(command, s, args, lengths={}, clause=False):
     ends = number in (10, 11, 12) and command == "commit"
     said = fate(command, s, args) if number == 0 else "ended %d" % args[0] if ends else "same"
     given = ["value"] if number == 0 and command in GIVES_VALUE else []
-    print("  %s: %d" % (typed(command, args), number), " ".join([said] + given))
+    print("  %s: %d" % (spoken or typed(command, args), number), " ".join([said] + given))
 
 
 # ---- the commands that are put to a state
@@ -363,11 +337,9 @@ ALL = ALL + each("log", (250,), (MOST,)) + each("archive", (15,), (MOST,)) + eac
 ALL = ALL + each("cycle", (EARLY, 10), (SOON, 600), (LATE, 10), (EARLY, 601), (SOON, 601), (LATE, 601), (EARLY, MOST), (SOON, MOST), (MOST, MOST))
 ALL = ALL + each("tick", (0,), (600,), (601,), (MOST,))
 ALL = ALL + each("begin", (0,), (1,), (3,)) + each("abandon", (0,), (2,), (3,)) + each("commit", (0,), (2,), (3,))
-ALL = ALL + each("read", (0, 1), (3, 1), (1, 0), (1, 30), (3, 30), (2, 30), (2, 1), (1, 22), (1, 29), (2, 29))
-ALL = ALL + each("write", (0, 1, 1), (3, 1, 5), (1, 30, 1), (1, 0, 1), (2, 30, 1), (2, 1, 1), (2, 1, 5), (1, 1, 5), (1, 1, 1.0), (1, 11, 1))
-ALL = ALL + each("write", (1, 11, inf), (1, 30, inf), (2, 0, inf), (3, 30, inf))
-ALL = ALL + each("write", (1, 22, 0), (1, 22, 6), (1, 22, 7), (2, 22, 7), (1, 22, 1.0))
-ALL = ALL + each("write", (1, 29, 0), (1, 29, 1), (1, 29, 1_000_000), (1, 29, 1_000_001), (2, 29, 0))
+ALL = ALL + each("read", (0, 1), (3, 1), (1, 0), (1, NONE), (3, NONE), (2, NONE), (2, 1), (1, CHOICE), (1, LAST), (2, LAST))
+ALL = ALL + each("write", (0, 1, 1), (3, 11, 1), (1, NONE, 1), (1, 0, 1), (2, NONE, 1), (2, 1, 1), (2, 11, 1), (1, 1, 1.0), (1, 11, 1))
+ALL = ALL + each("write", (1, 11, inf), (1, NONE, inf), (2, 0, inf), (3, NONE, inf))
 
 
 def put(title, s, commands, lengths={}, clause=False):
@@ -498,10 +470,10 @@ def clauses():
     for told in AUDIT_TRAILS:
         every("audit trail %d %d %d" % told, State().but(audit=told))
     for door in (1, 2):
-        for setting in (1, 29):
+        for setting in (1, LAST):
             every("overtaken and not read %d %d" % (door, setting), State(2).with_cell(door, setting, overtaken=True))
     for door in (1, 2):
-        for setting in (1, 29):
+        for setting in (1, LAST):
             s = State(2).with_session(door, Session())
             every("staged with no session %d %d" % (door, setting), s.with_cell(door, setting, staged=[1]))
             every("read with no session %d %d" % (door, setting), s.with_cell(door, setting, read=True))
@@ -513,15 +485,44 @@ def accounts():
 
 
 def values():
-    for setting, (span, _, _) in TABLE.items():
-        for v in [inf, -inf, nan, 0] if span is FINITE else [span[0] - 1, span[1] + 1, 1.0]:
-            assert not fits(setting, v)
+    for n, row in TABLE.items():
+        for v in [inf, -inf, nan, 0] if row.ends is None else [row.ends[0] - 1, row.ends[1] + 1, 1.0]:
+            assert not fits(n, v)
             # in force it breaks no account, because the outputs are off
-            every("setting %d %s" % (setting, shown(v)), State().outputs_off().with_setting(setting, v))
+            every("setting %d %s" % (n, typed_value(v)), State().outputs_off().with_setting(n, v))
             for door in (1, 2):
-                every("staged %d %d %s" % (door, setting, shown(v)), State(2).with_cell(door, setting, staged=[v]))
-    for low, m, n in ((7, 700_000, 700_000), (7, 700_001, 700_000), (9, 6_000, 6_000), (9, 6_001, 6_000)):
-        every("pair %d %d %d" % (low, m, n), State().with_setting(low, m).with_setting(low + 1, n))
+                every("staged %d %d %s" % (door, n, typed_value(v)), State(2).with_cell(door, n, staged=[v]))
+    for low, high in PAIRS:
+        top = TABLE[high].factory
+        for v in (top, top + 1):
+            every("pair %d %d %d %d" % (low, high, v, top), State().with_setting(low, v).with_setting(high, top))
+
+
+# ---- what the rows allow and refuse
+
+MOST_FLOAT = 1.7976931348623157e308
+
+
+def tried_of(row):
+    """Both ends and one past each, or the largest finite floats and what is not finite; then the wrong kind."""
+    if row.ends is None:
+        return [-MOST_FLOAT, MOST_FLOAT, inf, -inf, nan, 0]
+    return [row.ends[0] - 1, row.ends[0], row.ends[1], row.ends[1] + 1, 1.0]
+
+
+def rows():
+    for title, door, s in (("", 1, State()), (" at a door with no session", 2, State()), (", month 39", 1, State().not_whole())):
+        print("each setting written" + title)
+        for row in ROWS:
+            for v in tried_of(row):
+                line("write", s, (door, row.number, v))
+    print("each setting committed alone with these locks open")
+    for row in ROWS:
+        for digits in range(8):
+            s = State().but(open={n for n in (1, 2, 3) if digits & (8 >> n)})
+            s.doors[1] = Session(True)
+            s.doors[1].staged = {row.number: row.factory}
+            line("commit", s, (1,), spoken="commit of %d %s" % (row.number, " ".join("yes" if n in s.open else "no" for n in (1, 2, 3))))
 
 
 # ---- stores of a wrong length
@@ -611,6 +612,7 @@ if __name__ == "__main__":
     clauses()
     accounts()
     values()
+    rows()
     lengths()
     order()
     all_tried()

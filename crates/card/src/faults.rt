@@ -3,6 +3,7 @@ use crate::page::next_cell;
 use crate::page::number;
 use crate::page::row_begins;
 use crate::page::row_ends;
+use crate::table::pairs;
 use print::text;
 use state::faults::BAD_VALUE;
 use state::faults::DONE;
@@ -22,6 +23,8 @@ use state::faults::TOO_LARGE;
 use state::faults::WRONG_CODE;
 
 const SETTINGS: u64 = settings::COUNT as u64;
+
+const LOCKS: u64 = settings::table::LOCKS as u64;
 
 fn given(fault: u64) {
     row_begins();
@@ -78,13 +81,12 @@ fn of_the_call() {
         b"Begin at a door with an open session",
         b"Go on in that session, or abandon it and begin again",
     );
-    limit(
-        NO_SUCH,
-        b"Door not 1 (keypad) or 2 (optical port), setting not 1 to ",
-        SETTINGS,
-        b", lock not 1 to 3",
-        b"Look the number up on this card and give the command again",
-    );
+    given(NO_SUCH);
+    text(b"Door not 1 (keypad) or 2 (optical port), setting not 1 to ");
+    number(SETTINGS);
+    text(b", lock not 1 to ");
+    number(LOCKS);
+    remedied(b"Look the number up on this card and give the command again");
     plain(
         NO_SESSION,
         b"Read, Write, Commit or Abandon at a door with no session",
@@ -130,16 +132,17 @@ fn of_the_settings() {
     plain(
         LOCK_MISSING,
         b"A lock missing for a staged setting at Commit, or for Clear",
-        b"Open the lock it needs (last line of this page). A commit's session has ended: begin, write and commit anew",
+        b"Open the lock it needs (last table of this page). A commit's session has ended: begin, write and commit anew",
     );
     plain(
         STALE,
         b"Stale commit: a setting read in this session was since put in force through the other door",
         b"Begin, read the settings again, work out your value again, write and commit anew",
     );
-    plain(
-        PAIR_CROSSED,
-        b"pMin above pMax, or TMin above TMax, as it would stand after the commit",
+    given(PAIR_CROSSED);
+    pairs(b" above ", b", or ");
+    text(b", as it would stand after the commit");
+    remedied(
         b"Begin, read both ends of the pair, write a Min that is not above its Max, commit anew",
     );
 }

@@ -1,4 +1,4 @@
-// Prints docs/FAULT-CARD.md: the numbers that the device answers, its archive, its pulse outputs and its settings. Limits, sizes, ranges, factory values and locks are the device's own. So a change
+// Prints docs/FAULT-CARD.md: the numbers that the device answers, its archive, its pulse outputs and its settings. Limits, sizes, and the rows of settings, pairs and locks are the device's own. So a change
 // of the device changes what is printed, and the gate refuses the committed page.
 mod archive;
 mod faults;
@@ -11,7 +11,7 @@ use print::text;
 fn main() {
     text(b"# Hnchakorim: fault card and settings\n\n");
     text(
-        b"Printed by the program `card`, with numbers, limits, sizes, ranges, factory values and locks from the device's own rows; not edited by hand.\n\n",
+        b"Printed by the program `card`, with numbers, limits and sizes from the device's own constants, and settings, pairs and locks from its own rows; not edited by hand.\n\n",
     );
     faults::run();
     text(b"\n");

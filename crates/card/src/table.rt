@@ -1,4 +1,4 @@
-// The settings, row by row as the device has them. Only the names and units are this page's own.
+// The settings, the pairs and the locks, row by row as the device has them.
 use crate::page::next_cell;
 use crate::page::number;
 use crate::page::row_begins;
@@ -6,108 +6,21 @@ use crate::page::row_ends;
 use crate::page::whole;
 use print::pattern;
 use print::text;
-use settings::Row;
+use print::trimmed;
 use settings::Value;
+use settings::table::CLEAR;
+use settings::table::LOCKS;
+use settings::table::PAIRS;
+use settings::table::Row;
+use settings::table::lock_of;
+use settings::table::pair_of;
+use settings::table::row_of;
 
-fn called(name: &[u8], unit: &[u8]) {
-    text(name);
-    next_cell();
-    text(unit);
-}
-
-fn unknown() {
-    called(b"?", b"?");
-}
-
-fn pulse_base_and_modes(k: usize) {
-    match k {
-        0 => called(b"cp code", b"code c: a pulse is 10^(c+1) litres"),
-        1 => called(b"pb", b"Pa"),
-        2 => called(b"Tb", b"0.01 K"),
-        3 => called(b"Md.p", b"0 p.F, 1 measured"),
-        4 => called(b"Md.T", b"0 T.F, 1 measured"),
-        5 => called(b"Md.K", b"0 K.F, 1 computed"),
-        _ => unknown(),
-    }
-}
-
-fn alarm_limits(k: usize) {
-    match k {
-        6 => called(b"pMin", b"Pa"),
-        7 => called(b"pMax", b"Pa"),
-        8 => called(b"TMin", b"0.01 \xc2\xb0C"),
-        9 => called(b"TMax", b"0.01 \xc2\xb0C"),
-        _ => unknown(),
-    }
-}
-
-fn temperature_equation(k: usize) {
-    match k {
-        10 => called(b"Eq1.T", b"float"),
-        11 => called(b"Eq2.T", b"float"),
-        12 => called(b"Eq3.T", b"float"),
-        _ => unknown(),
-    }
-}
-
-fn fixed_values(k: usize) {
-    match k {
-        13 => called(b"p.F", b"Pa"),
-        14 => called(b"T.F", b"0.01 \xc2\xb0C"),
-        15 => called(b"K.F", b"0.0001"),
-        _ => unknown(),
-    }
-}
-
-fn gas_and_customer(k: usize) {
-    match k {
-        16 => called(b"Ho.b", b"0.001 kWh/m\xc2\xb3"),
-        17 => called(b"CO2", b"0.01 %"),
-        18 => called(b"H2", b"0.01 %"),
-        19 => called(b"Rhob", b"0.0001 kg/m\xc2\xb3"),
-        20 => called(b"customer's number", b"-"),
-        _ => unknown(),
-    }
-}
-
-fn choice(name: &[u8]) {
-    called(name, b"0 off, 1 Vm, 2 VmD, 3 VmT, 4 Vb, 5 VbD, 6 VbT");
-}
-
-fn choices(k: usize) {
-    match k {
-        21 => choice(b"choice of output 1"),
-        22 => choice(b"choice of output 2"),
-        23 => choice(b"choice of output 3"),
-        24 => choice(b"choice of output 4"),
-        _ => unknown(),
-    }
-}
-
-fn weight(name: &[u8]) {
-    called(name, b"litres a pulse");
-}
-
-fn weights(k: usize) {
-    match k {
-        25 => weight(b"weight of output 1"),
-        26 => weight(b"weight of output 2"),
-        27 => weight(b"weight of output 3"),
-        28 => weight(b"weight of output 4"),
-        _ => unknown(),
-    }
-}
-
-// By the place in the table. In groups, because the proof of one long match takes many times as long. A row that this page does not know is printed without a name.
-fn name_and_unit(k: usize) {
-    match k {
-        0..=5 => pulse_base_and_modes(k),
-        6..=9 => alarm_limits(k),
-        10..=12 => temperature_equation(k),
-        13..=15 => fixed_values(k),
-        16..=20 => gas_and_customer(k),
-        21..=24 => choices(k),
-        _ => weights(k),
+fn kind(coefficient: bool) {
+    if coefficient {
+        text(b"float");
+    } else {
+        text(b"whole number");
     }
 }
 
@@ -144,28 +57,34 @@ fn value(v: Value) {
     }
 }
 
-fn lock_name(lock: u8) {
-    match lock {
-        1 => text(b"1 calibration"),
-        2 => text(b"2 supplier's"),
-        3 => text(b"3 customer's"),
-        _ => text(b"?"),
-    }
+// Its number and its name.
+fn lock(lock: u8) {
+    let r = lock_of(lock);
+    let name = r.name;
+    number(r.number as u64);
+    text(b" ");
+    trimmed(&name);
 }
 
 fn setting(k: usize) {
-    let r = settings::row_of(k);
+    let r = row_of(k);
+    let name = r.name;
+    let unit = r.unit;
     let factory = r.factory;
     row_begins();
-    number(std::num::wrapping_add_u64(k as u64, 1));
+    number(r.number);
     next_cell();
-    name_and_unit(k);
+    trimmed(&name);
+    next_cell();
+    trimmed(&unit);
+    next_cell();
+    kind(r.coefficient);
     next_cell();
     range(r);
     next_cell();
     value(factory);
     next_cell();
-    lock_name(r.lock);
+    lock(r.lock);
     row_ends();
 }
 
@@ -175,29 +94,75 @@ fn every_setting() {
     }
 }
 
-fn where_true(b: bool, s: &[u8]) {
-    if b {
-        text(s);
+fn named(k: usize) {
+    let r = row_of(k);
+    let name = r.name;
+    trimmed(&name);
+}
+
+fn pair(i: usize, between: &[u8], joined: &[u8]) {
+    if 0 < i {
+        text(joined);
+    }
+    let p = pair_of(i);
+    named(p.low);
+    text(between);
+    named(p.high);
+}
+
+// The names of each pair's settings with words between them, and words between the pairs.
+pub fn pairs(between: &[u8], joined: &[u8]) {
+    for i in 0..PAIRS {
+        pair(i, between, joined);
     }
 }
 
-// Which locks give the right when they alone are open, by the device's own rule.
-fn needs(lock: u8) {
-    lock_name(lock);
-    text(b" needs");
-    where_true(settings::lock_opens(lock, true, false, false), b" 1");
-    where_true(settings::lock_opens(lock, false, true, false), b" or 2");
-    where_true(settings::lock_opens(lock, false, false, true), b" or 3");
+fn gives(right: bool) {
+    next_cell();
+    if right {
+        text(b"yes");
+    } else {
+        text(b"no");
+    }
 }
 
-fn locks() {
-    text(b"Locks open at Commit: ");
-    needs(1);
-    text(b"; ");
-    needs(2);
-    text(b"; ");
-    needs(3);
-    text(b". Clear needs 1 or 2.\n");
+// Which of the three locks give the right that a lock stands for.
+fn given_by(lock: u8) {
+    let r = lock_of(lock);
+    gives(r.cal);
+    gives(r.sup);
+    gives(r.cust);
+    row_ends();
+}
+
+fn right(n: u8) {
+    row_begins();
+    lock(n);
+    given_by(n);
+}
+
+fn every_right() {
+    for n in 1..LOCKS + 1 {
+        right(n);
+    }
+}
+
+fn clear() {
+    row_begins();
+    text(b"Clear");
+    given_by(CLEAR);
+}
+
+fn rights() {
+    text(
+        b"## The rights\n\nFind the setting's lock in the table above, then its row here. Any one of the locks with a yes is enough, if it is open at the commit. A commit needs\n",
+    );
+    text(
+        b"this for every setting that it puts in force. Clear has its own row, and asks when it is given.\n\n",
+    );
+    text(b"| For | Lock 1 | Lock 2 | Lock 3 |\n|---|---|---|---|\n");
+    every_right();
+    clear();
 }
 
 pub fn run() {
@@ -205,11 +170,13 @@ pub fn run() {
     number(settings::COUNT as u64);
     text(b" settings\n\n");
     text(
-        b"| No. | Setting | Unit | Range, ends included | Factory | Lock |\n|--:|---|---|---|---|---|\n",
+        b"| No. | Setting | Unit | Kind | Range, ends included | Factory | Lock |\n|--:|---|---|---|---|---|---|\n",
     );
     every_setting();
-    text(
-        b"\nA float is written as the 16 hexadecimal digits of its bits. After a commit pMin is at most pMax and TMin at most TMax, else 12.\n",
-    );
-    locks();
+    text(b"\nA float is written as the 16 hexadecimal digits of its bits. After a commit ");
+    pairs(b" is at most ", b" and ");
+    text(b", else ");
+    number(state::faults::PAIR_CROSSED);
+    text(b".\n\n");
+    rights();
 }

@@ -6,13 +6,13 @@ use mathlib.Core.List.{List, [], _∷_, _++_, map}
 use Prim.Native.Nat.{ℕ, _+_}
 use lib.Dec.{eqb}
 use lib.IntN.{ℤ, pos, negsuc, negℤ}
-use lib.Ieee.{Float, fin, binary64, ofBits}
+use lib.Ieee.{Float, nan, inf, fin, binary64, ofBits}
 use lib.ListN.{replicate, set}
 use Rattle.order.specs.Order.{run}
 use Rattle.units.specs.Units.{litresOf, baseOf}
 use Rattle.settings.specs.declared.Setting.{Setting}
 use Rattle.settings.specs.Settings.{factorySettings, cp, pMax, firstChoice, firstWeight}
-use Rattle.settings.specs.declared.Value.the-variants.{Whole}
+use Rattle.settings.specs.declared.Value.the-variants.{Whole, Coefficient}
 use Rattle.outputs.specs.declared.Output.{Output}
 use Rattle.outputs.specs.declared.Shown.{Shown}
 use Rattle.outputs.specs.Outputs.{accountOf, freshOutput}
@@ -233,6 +233,10 @@ abbrev pub putBoth : ℕ → ℕ → ℕ → ℕ → List Step
 putBoth first v second u =
     Turn (Open 2 1111) ∷ Call 1 Begin ∷ Call 1 (Write first (Whole (pos v))) ∷ Call 1 (Write second (Whole (pos u))) ∷ Commit 1 ∷ []
 
+-- a session at door 1 that tries to put one setting in force, alone
+abbrev pub putAlone : ℕ → ℕ → List Step
+putAlone setting v = Call 1 Begin ∷ Call 1 (Write setting (Whole (pos v))) ∷ Commit 1 ∷ []
+
 -- a cycle at a time, of n pulses, raw 7,680 and a pressure in pascals; K is not computed
 abbrev pub aCycle : ℕ → ℕ → ℕ → Step
 aCycle time n p = Cycle (record { time = time; n = n; raw = Raw 7680; pressure = Pascals p; k = NotComputed })
@@ -377,4 +381,37 @@ table =
     ∷ row (Request 3) (runCase (deviceOf 4 1 (anOutput 99999 0 0)) (Ask question.Outputs ∷ []) (0 ∷ []))
     ∷ row (Request 3) (runCase (deviceOf 0 100 (anOutput 1 0 0)) oneOfEach oneEach)
     ∷ row (Request 3) (runCase (deviceOf 0 100 (anOutput 0 1 1)) (Ask question.Outputs ∷ []) (0 ∷ []))
+    -- Document 02, Four: the rights, row by row. Settings 1, 17 and 21 are of locks cal, sup and cust. No lock open: 10
+    ∷ row (Request 4) (runCase factoryDevice (putAlone 1 1) (0 ∷ 0 ∷ 10 ∷ []))
+    ∷ row (Request 4) (runCase factoryDevice (putAlone 17 11000) (0 ∷ 0 ∷ 10 ∷ []))
+    ∷ row (Request 4) (runCase factoryDevice (putAlone 21 7) (0 ∷ 0 ∷ 10 ∷ []))
+    -- lock 1 gives all three rights
+    ∷ row (Request 4) (runCase factoryDevice (Turn (Open 1 0) ∷ putAlone 1 1) (0 ∷ 0 ∷ 0 ∷ 0 ∷ []))
+    ∷ row (Request 4) (runCase factoryDevice (Turn (Open 1 0) ∷ putAlone 17 11000) (0 ∷ 0 ∷ 0 ∷ 0 ∷ []))
+    ∷ row (Request 4) (runCase factoryDevice (Turn (Open 1 0) ∷ putAlone 21 7) (0 ∷ 0 ∷ 0 ∷ 0 ∷ []))
+    -- lock 2 gives sup and cust
+    ∷ row (Request 4) (runCase factoryDevice (Turn (Open 2 1111) ∷ putAlone 1 1) (0 ∷ 0 ∷ 0 ∷ 10 ∷ []))
+    ∷ row (Request 4) (runCase factoryDevice (Turn (Open 2 1111) ∷ putAlone 17 11000) (0 ∷ 0 ∷ 0 ∷ 0 ∷ []))
+    ∷ row (Request 4) (runCase factoryDevice (Turn (Open 2 1111) ∷ putAlone 21 7) (0 ∷ 0 ∷ 0 ∷ 0 ∷ []))
+    -- lock 3 gives cust alone, and locks 2 and 3 together do not give cal
+    ∷ row (Request 4) (runCase factoryDevice (Turn (Open 3 2222) ∷ putAlone 1 1) (0 ∷ 0 ∷ 0 ∷ 10 ∷ []))
+    ∷ row (Request 4) (runCase factoryDevice (Turn (Open 3 2222) ∷ putAlone 17 11000) (0 ∷ 0 ∷ 0 ∷ 10 ∷ []))
+    ∷ row (Request 4) (runCase factoryDevice (Turn (Open 3 2222) ∷ putAlone 21 7) (0 ∷ 0 ∷ 0 ∷ 0 ∷ []))
+    ∷ row (Request 4) (runCase factoryDevice (Turn (Open 2 1111) ∷ Turn (Open 3 2222) ∷ putAlone 1 1) (0 ∷ 0 ∷ 0 ∷ 0 ∷ 10 ∷ []))
+    -- one commit of two settings, 21 and 17: lock 3 gives the right to the first only
+    ∷ row (Request 4) (runCase factoryDevice (Turn (Open 3 2222) ∷ Call 1 Begin ∷ Call 1 (Write 21 (Whole (pos 7))) ∷ Call 1 (Write 17 (Whole (pos 11000))) ∷ Commit 1 ∷ []) (0 ∷ 0 ∷ 0 ∷ 0 ∷ 10 ∷ []))
+    -- Clear needs lock 1 or 2
+    ∷ row (Request 4) (runCase factoryDevice (Clear ∷ Turn (Open 3 2222) ∷ Clear ∷ Turn (Open 2 1111) ∷ Clear ∷ Turn (Shut 2) ∷ Turn (Open 1 0) ∷ Clear ∷ []) (10 ∷ 0 ∷ 10 ∷ 0 ∷ 0 ∷ 0 ∷ 0 ∷ 0 ∷ []))
+    -- T.F from -10,000 to 20,000, both included, and no float; the last row, a weight, from 1 to 1,000,000
+    ∷ row (Request 4) (runCase factoryDevice
+    (Call 2 Begin ∷ Call 2 (Write 15 (Whole (negℤ (pos 10001)))) ∷ Call 2 (Write 15 (Whole (negℤ (pos 10000)))) ∷ Call 2 (Write 15 (Whole (pos 20000))) ∷ Call 2 (Write 15 (Whole (pos 20001)))
+    ∷ Call 2 (Write 15 (Coefficient (fin false 1 (pos 0)))) ∷ [])
+    (0 ∷ 9 ∷ 0 ∷ 0 ∷ 9 ∷ 9 ∷ []))
+    ∷ row (Request 4) (runCase factoryDevice
+    (Call 2 Begin ∷ Call 2 (Write 29 (Whole (pos 0))) ∷ Call 2 (Write 29 (Whole (pos 1))) ∷ Call 2 (Write 29 (Whole (pos 1000000))) ∷ Call 2 (Write 29 (Whole (pos 1000001))) ∷ Call 2 (Write 30 (Whole (pos 1))) ∷ [])
+    (0 ∷ 9 ∷ 0 ∷ 0 ∷ 9 ∷ 3 ∷ []))
+    -- Eq1.T takes any finite float, and no whole number
+    ∷ row (Request 4) (runCase factoryDevice
+    (Call 2 Begin ∷ Call 2 (Write 11 (Coefficient (fin true 1 (pos 1000)))) ∷ Call 2 (Write 11 (Coefficient (inf true))) ∷ Call 2 (Write 11 (Coefficient nan)) ∷ Call 2 (Write 11 (Whole (pos 0))) ∷ [])
+    (0 ∷ 0 ∷ 9 ∷ 9 ∷ 9 ∷ []))
     ∷ []

@@ -8,6 +8,7 @@ use print::text;
 use print::title;
 use ring::Ring;
 use settings::Value;
+use settings::table::row_of;
 use state::Alarms;
 use state::Cell;
 use state::State;
@@ -254,45 +255,43 @@ fn audit_trails() {
     audit(200, 0, 204);
 }
 
-// What a session has staged or read of one setting.
-fn seen_at(label: &[u8], s: State, door: u64, setting: u64, place: usize, c: Cell) {
-    two(label, door, setting);
-    every(change::cell(s, door, place, c));
+// What a session has staged or read of the setting at a place.
+fn seen_at(label: &[u8], s: State, door: u64, k: usize, c: Cell) {
+    let r = row_of(k);
+    two(label, door, r.number);
+    every(change::cell(s, door, k, c));
 }
 
 // Marked as put in force through the other door, and not read.
-fn overtaken(door: u64, setting: u64, place: usize) {
+fn overtaken(door: u64, k: usize) {
     let c = seen(false, true);
-    seen_at(
-        b"overtaken and not read",
-        two_sessions(),
-        door,
-        setting,
-        place,
-        c,
-    );
+    seen_at(b"overtaken and not read", two_sessions(), door, k, c);
 }
 
 // Something staged or read though there is no session.
-fn left_over(door: u64, setting: u64, place: usize) {
+fn left_over(door: u64, k: usize) {
     let none = state::no_session();
     let s = change::session(two_sessions(), door, none);
     let one = staged(Value::Whole(1));
-    seen_at(b"staged with no session", s, door, setting, place, one);
+    seen_at(b"staged with no session", s, door, k, one);
     let two = seen(true, false);
-    seen_at(b"read with no session", s, door, setting, place, two);
+    seen_at(b"read with no session", s, door, k, two);
 }
 
 // The first setting and the last.
+const FIRST: usize = 0;
+
+const LAST: usize = settings::COUNT - 1;
+
 fn sessions() {
-    overtaken(1, 1, 0);
-    overtaken(1, 29, 28);
-    overtaken(2, 1, 0);
-    overtaken(2, 29, 28);
-    left_over(1, 1, 0);
-    left_over(1, 29, 28);
-    left_over(2, 1, 0);
-    left_over(2, 29, 28);
+    overtaken(1, FIRST);
+    overtaken(1, LAST);
+    overtaken(2, FIRST);
+    overtaken(2, LAST);
+    left_over(1, FIRST);
+    left_over(1, LAST);
+    left_over(2, FIRST);
+    left_over(2, LAST);
 }
 
 pub fn run() {

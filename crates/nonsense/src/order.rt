@@ -2,6 +2,7 @@
 use crate::lists::all;
 use print::title;
 use settings::Value;
+use settings::table::CP;
 use state::State;
 use trials::base::locks;
 use trials::base::one_session;
@@ -41,7 +42,7 @@ fn one_reason() {
         change::outputs(s, outputs::fresh_outputs()),
     );
     put(b"month 39", not_whole(s));
-    put(b"cp code 16", change::setting(s, 0, Value::Whole(16)));
+    put(b"cp code 16", change::setting(s, CP, Value::Whole(16)));
     put(
         b"time past the end",
         change::time(s, 18_446_744_073_709_551_615, 1_199),

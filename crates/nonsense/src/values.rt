@@ -1,114 +1,111 @@
-// Every command on states with one setting, in force or staged at a door, that does not fit; and on states with a pair out of order.
+// Every command on states with one setting, in force or staged at a door, that does not fit; and on states with a pair out of order. What does not fit comes from the
+// rows of the table.
 use crate::lists::every;
+use crate::rows::value;
 use print::end;
 use print::infinity;
 use print::not_a_number;
 use print::number;
+use print::one_above;
+use print::one_below;
+use print::signed;
 use print::text;
 use settings::Value;
+use settings::table::PAIRS;
+use settings::table::Row;
+use settings::table::pair_of;
+use settings::table::row_of;
 use trials::base::one_session;
 use trials::base::staged;
 use trials::base::two_sessions;
 use trials::change;
 use trials::change::outputs_off;
 
-fn value(v: Value) {
-    match v {
-        Value::Whole(n) => print::signed(n),
-        Value::Coefficient(x) => {
-            text(b" float");
-            print::float(x);
-        }
-    }
-}
-
-fn titled(setting: u64, v: Value) {
-    number(setting);
+// The setting at a place by its number, and the value.
+fn titled(k: usize, v: Value) {
+    let r = row_of(k);
+    number(r.number);
     value(v);
     end();
 }
 
-fn at_door(door: u64, setting: u64, place: usize, v: Value) {
+fn at_door(door: u64, k: usize, v: Value) {
     text(b"staged");
     number(door);
-    titled(setting, v);
-    every(change::cell(two_sessions(), door, place, staged(v)));
+    titled(k, v);
+    every(change::cell(two_sessions(), door, k, staged(v)));
 }
 
 // In force it breaks no account, because the outputs are off.
-fn broken(setting: u64, place: usize, v: Value) {
+fn broken(k: usize, v: Value) {
     text(b"setting");
-    titled(setting, v);
-    every(change::setting(outputs_off(one_session()), place, v));
-    at_door(1, setting, place, v);
-    at_door(2, setting, place, v);
+    titled(k, v);
+    every(change::setting(outputs_off(one_session()), k, v));
+    at_door(1, k, v);
+    at_door(2, k, v);
 }
 
-fn whole(setting: u64, place: usize, below: i64, above: i64) {
-    broken(setting, place, Value::Whole(below));
-    broken(setting, place, Value::Whole(above));
-    broken(setting, place, Value::Coefficient(1.0));
+// One below the row's range, one above it, and a value of the other kind.
+fn whole(k: usize, r: Row) {
+    broken(k, Value::Whole(one_below(r.lowest)));
+    broken(k, Value::Whole(one_above(r.highest)));
+    broken(k, Value::Coefficient(1.0));
 }
 
-fn coefficient(setting: u64, place: usize) {
-    broken(setting, place, Value::Coefficient(infinity()));
-    broken(setting, place, Value::Coefficient(-infinity()));
-    broken(setting, place, Value::Coefficient(not_a_number()));
-    broken(setting, place, Value::Whole(0));
+fn coefficient(k: usize) {
+    broken(k, Value::Coefficient(infinity()));
+    broken(k, Value::Coefficient(-infinity()));
+    broken(k, Value::Coefficient(not_a_number()));
+    broken(k, Value::Whole(0));
 }
 
-// One below and one above each range of the table.
-fn settings_broken() {
-    whole(1, 0, -1, 5);
-    whole(2, 1, 89_999, 110_001);
-    whole(3, 2, 27_314, 29_816);
-    whole(4, 3, -1, 2);
-    whole(5, 4, -1, 2);
-    whole(6, 5, -1, 2);
-    whole(7, 6, 9_999, 10_000_001);
-    whole(8, 7, 9_999, 10_000_001);
-    whole(9, 8, -10_001, 20_001);
-    whole(10, 9, -10_001, 20_001);
-    coefficient(11, 10);
-    coefficient(12, 11);
-    coefficient(13, 12);
-    whole(14, 13, 9_999, 10_000_001);
-    whole(15, 14, -10_001, 20_001);
-    whole(16, 15, 4_999, 20_001);
-    whole(17, 16, 4_999, 14_001);
-    whole(18, 17, -1, 3_001);
-    whole(19, 18, -1, 1_001);
-    whole(20, 19, 5_999, 12_001);
-    whole(21, 20, -1, 1_000_000_000);
+fn setting(k: usize) {
+    let r = row_of(k);
+    if r.coefficient {
+        coefficient(k);
+    } else {
+        whole(k, r);
+    }
 }
 
-// The same of the outputs: four choices, then four weights.
-fn outputs_broken() {
-    whole(22, 21, -1, 7);
-    whole(23, 22, -1, 7);
-    whole(24, 23, -1, 7);
-    whole(25, 24, -1, 7);
-    whole(26, 25, 0, 1_000_001);
-    whole(27, 26, 0, 1_000_001);
-    whole(28, 27, 0, 1_000_001);
-    whole(29, 28, 0, 1_000_001);
+fn every_setting() {
+    for k in 0..settings::COUNT {
+        setting(k);
+    }
 }
 
-fn pair(low: u64, place: usize, m: i64, next: usize, n: i64) {
+// The two settings of a pair at these values.
+fn pair(i: usize, m: i64, n: i64) {
+    let p = pair_of(i);
+    let low = row_of(p.low);
+    let high = row_of(p.high);
     text(b"pair");
-    number(low);
-    print::signed(m);
-    print::signed(n);
+    number(low.number);
+    number(high.number);
+    signed(m);
+    signed(n);
     end();
-    let s = change::setting(one_session(), place, Value::Whole(m));
-    every(change::setting(s, next, Value::Whole(n)));
+    let s = change::setting(one_session(), p.low, Value::Whole(m));
+    every(change::setting(s, p.high, Value::Whole(n)));
+}
+
+// The lower one at the upper one's factory value, which is in order; and one above that.
+fn met(i: usize) {
+    let p = pair_of(i);
+    let high = row_of(p.high);
+    let v = high.factory;
+    let n = settings::whole_of(v);
+    pair(i, n, n);
+    pair(i, one_above(n), n);
+}
+
+fn every_pair() {
+    for i in 0..PAIRS {
+        met(i);
+    }
 }
 
 pub fn run() {
-    settings_broken();
-    outputs_broken();
-    pair(7, 6, 700_000, 7, 700_000);
-    pair(7, 6, 700_001, 7, 700_000);
-    pair(9, 8, 6_000, 9, 6_000);
-    pair(9, 8, 6_001, 9, 6_000);
+    every_setting();
+    every_pair();
 }

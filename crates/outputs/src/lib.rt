@@ -108,8 +108,8 @@ fn rule_at(a: [Setting; settings::COUNT], k: usize) -> Rule
     requires { ⌜ k < outputCount ⌝ }
     ensures { λ r. ⌜ r ≡ ruleAt a k ⌝ }
 {
-    let choice = settings::natural_at(a, settings::CHOICES + k);
-    let weight = settings::natural_at(a, settings::WEIGHTS + k);
+    let choice = settings::natural_at(a, settings::table::CHOICE_1 + k);
+    let weight = settings::natural_at(a, settings::table::WEIGHT_1 + k);
     Rule {
         choice: choice,
         weight: weight,

@@ -8,6 +8,7 @@ use lib.ListN.{length}
 use lib.Dec.{ltb, leb, eqb}
 use Rattle.outputs.specs.Four.{ruleAt, allTicked, mostTick, allShown, emittedOf, shownOf}
 use Rattle.calendar.specs.Calendar.{endOfTime}
+use Rattle.settings.specs.Settings.{lockCount}
 use Rattle.ring.specs.Ring.{archiveLines, logLines, advancedBook}
 use Rattle.books.specs.declared.ArchiveLine.{ArchiveLine}
 use Rattle.books.specs.declared.LogLine.{LogLine}
@@ -39,7 +40,7 @@ startOf time supcode custcode = answered (startRefusal time) (fresh 0 0 0) (fres
 -- ---- locks
 
 abbrev pub noLock : ℕ → Bool
-noLock lock = ltb lock 1 || ltb 3 lock
+noLock lock = ltb lock 1 || ltb lockCount lock
 
 unfoldable pub lockIn : Locks → ℕ → Bool
 lockIn l lock = cond (eqb lock 1) (l .cal) (cond (eqb lock 2) (l .sup) (l .cust))

@@ -1,9 +1,39 @@
 // How the trial programs and the card print to standard output: words, numbers, and floats by their bits. `number`, `signed`, `flag` and `float` put a space first.
 use libc::STDOUT_FILENO;
 use settings::Value;
+ghost use mathlib.Core.Path.{_≡_};
+ghost use mathlib.Core.Bool.{true};
+ghost use Prim.Native.Nat.{_<_};
+
+const SPACE: u8 = 32;
+
+// The ends of what a whole number can be.
+pub const LEAST: i64 = -9_223_372_036_854_775_808;
+
+pub const MOST: i64 = 9_223_372_036_854_775_807;
 
 pub fn text(s: &[u8]) {
     io::write_all(STDOUT_FILENO, s);
+}
+
+fn blank_before(s: &[u8], n: usize) -> bool
+    ensures { λ r. ⌜ (r ≡ true → 0 < n) ⌝ }
+{
+    if 0 < n {
+        if n <= s.len() {
+            return s[n - 1] == SPACE;
+        }
+    }
+    false
+}
+
+// Without the spaces at its end.
+pub fn trimmed(s: &[u8]) {
+    let mut n = s.len();
+    while blank_before(s, n) {
+        n = n - 1;
+    }
+    text(&s[0..n]);
 }
 
 pub fn end() {
@@ -76,6 +106,18 @@ pub fn pattern(x: f64) {
 pub fn float(x: f64) {
     text(b" ");
     pattern(x);
+}
+
+// One less. Below the lowest number there is none: it stays.
+pub fn one_below(n: i64) -> i64 {
+    let room = LEAST < n;
+    if room { n - 1 } else { n }
+}
+
+// One more. Above the highest number there is none: it stays.
+pub fn one_above(n: i64) -> i64 {
+    let room = n < MOST;
+    if room { n + 1 } else { n }
 }
 
 pub fn infinity() -> f64 {

@@ -1,26 +1,27 @@
--- What the definitions of the settings give: the factory settings fit and are in order, and of settings that fit each number that the
--- formulas take is in its row's range.
+-- What the definitions of the settings give: the rows are numbered and named as they are read, the factory settings fit and are in order, the rights are those of the paper,
+-- and of settings that fit each number that the formulas take is in its row's range.
 -- Assumes nothing.
 use mathlib.Core.Path.{_≡_, refl, sym, _∙_}
-use mathlib.Core.Bool.{Bool, true, false, not, true≢false}
-use mathlib.Core.List.{List}
+use mathlib.Core.Bool.{Bool, true, false, not, _&&_, _||_, true≢false}
+use mathlib.Core.List.{List, [], _∷_, map}
 use Prim.Native.Nat.{ℕ, zero, suc, _+_, _≤_, _<_}
 use native.Mathlib.Omega.{arith}
-use lib.Dec.{ltb}
+use lib.Dec.{ltb, leb, eqb, eqb→eq}
 use lib.IntN.{ℤ, pos, negsuc}
 use lib.ListN.{length}
 use lib.Signed.{ltZ}
 use borrow.Author.Tests.{ltb-false, not-true}
 use Rattle.ground.specs.Below.{allBelow}
-use Rattle.ground.specs.Ranges.{leastK, mostK, leastP, mostP, leastPb, mostPb, leastTb, mostTb, leastWeight, mostWeight, coldest, hottest}
+use Rattle.ground.specs.Ranges.{mostCode, leastK, mostK, leastP, mostP, leastPb, mostPb, leastTb, mostTb, leastWeight, mostWeight, coldest, hottest}
 use Rattle.ground.proofs.Every.{all-each}
 use Rattle.ground.proofs.Flags.{and-left, and-right, of-T}
 use Rattle.ground.proofs.Table.{at}
 use Rattle.settings.specs.declared.Value.{Value}
 use Rattle.settings.specs.declared.Value.the-variants.{Whole, Coefficient}
 use Rattle.settings.specs.declared.Setting.{Setting}
-use Rattle.settings.specs.declared.Row.{Row}
-use Rattle.settings.specs.Settings.{settingCount, rows, noRow, rowOf, isFinite, withinB, fitsRow, fitsB, factoryOf, factorySettings, valueAt, wholeOf, naturalOf, fitsAt, settingsFitB, inOrder, orderedB, cp, pb, tb, pMin, pMax, pF, tF, kF, mostChoice, firstChoice, firstWeight}
+use Rattle.settings.specs.declared.table.Row.{Row}
+use Rattle.settings.specs.Columns.{column}
+use Rattle.settings.specs.Settings.{settingCount, lockCount, cal, sup, cust, locks, lockRowOf, nameWidth, rows, noRow, rowOf, isFinite, withinB, fitsRow, fitsB, factoryOf, factorySettings, valueAt, wholeOf, naturalOf, fitsAt, settingsFitB, pairs, pairOf, inOrder, pairInOrder, opensB, orderedAt, orderedB, cp, pb, tb, mdP, mdT, mdK, pMin, pMax, tMin, tMax, eq1, eq2, eq3, pF, tF, kF, mostChoice, firstChoice, firstWeight}
 
 -- ---- the table and the factory settings
 
@@ -41,8 +42,76 @@ unfolding settingsFitB allBelow fitsAt fitsB fitsRow rowOf rows withinB isFinite
 factory-fits = refl
 
 pub factory-ordered : orderedB factorySettings ≡ true
-unfolding orderedB inOrder factorySettings factoryOf rows
+unfolding orderedB orderedAt pairOf pairs pairInOrder allBelow inOrder factorySettings factoryOf rows
 factory-ordered = refl
+
+-- the rows are numbered from 1 on, and each has one of the three locks
+right-number : ℕ → Row → Bool
+right-number k r = eqb (r .number) (k + 1)
+
+pub numbered : (k : ℕ) → k < settingCount → rowOf k .number ≡ k + 1
+unfolding rowOf rows right-number
+numbered k l = eqb→eq (rowOf k .number) (k + 1) (at right-number noRow rows tt k l)
+
+known-lock : ℕ → Row → Bool
+known-lock k r = ltb 0 (r .lock) && leb (r .lock) lockCount
+
+pub locked : (k : ℕ) → k < settingCount → (ltb 0 (rowOf k .lock) && leb (rowOf k .lock) lockCount) ≡ true
+unfolding rowOf rows known-lock
+locked k l = of-T (known-lock k (rowOf k)) (at known-lock noRow rows tt k l)
+
+-- at each place that the corrector reads stands the row of that name
+pub places-named : map (λ k. rowOf k .name) (cp ∷ pb ∷ tb ∷ mdP ∷ mdT ∷ mdK ∷ pMin ∷ pMax ∷ tMin ∷ tMax ∷ eq1 ∷ eq2 ∷ eq3 ∷ pF ∷ tF ∷ kF ∷ [])
+    ≡ map (column nameWidth) ("cp code c" ∷ "pb" ∷ "Tb" ∷ "Md.p" ∷ "Md.T" ∷ "Md.K" ∷ "pMin" ∷ "pMax" ∷ "TMin" ∷ "TMax" ∷ "Eq1.T" ∷ "Eq2.T" ∷ "Eq3.T" ∷ "p.F" ∷ "T.F" ∷ "K.F" ∷ [])
+unfolding rowOf rows
+places-named = refl
+
+pub choices-named : map (λ k. rowOf (firstChoice + k) .name) (0 ∷ 1 ∷ 2 ∷ 3 ∷ [])
+    ≡ map (column nameWidth) ("choice of output 1" ∷ "choice of output 2" ∷ "choice of output 3" ∷ "choice of output 4" ∷ [])
+unfolding rowOf rows
+choices-named = refl
+
+pub weights-named : map (λ k. rowOf (firstWeight + k) .name) (0 ∷ 1 ∷ 2 ∷ 3 ∷ [])
+    ≡ map (column nameWidth) ("weight of output 1" ∷ "weight of output 2" ∷ "weight of output 3" ∷ "weight of output 4" ∷ [])
+unfolding rowOf rows
+weights-named = refl
+
+-- ---- the rule of rights, and the pairs, in the paper's words
+
+pub cal-needs : (one two three : Bool) → opensB cal one two three ≡ one
+unfolding opensB lockRowOf locks
+cal-needs true two three = refl
+cal-needs false two three = refl
+
+pub sup-needs : (one two three : Bool) → opensB sup one two three ≡ (one || two)
+unfolding opensB lockRowOf locks
+sup-needs true two three = refl
+sup-needs false true three = refl
+sup-needs false false three = refl
+
+pub cust-needs : (one two three : Bool) → opensB cust one two three ≡ (one || (two || three))
+unfolding opensB lockRowOf locks
+cust-needs one two three = refl
+
+-- there is no lock 0, and none above 3
+pub no-such-lock : (lock : ℕ) (one two three : Bool) → (ltb lock 1 || ltb lockCount lock) ≡ true → opensB lock one two three ≡ false
+unfolding opensB lockRowOf locks
+no-such-lock zero one two three e = refl
+no-such-lock (suc zero) one two three e = absurd (true≢false (sym e))
+no-such-lock (suc (suc zero)) one two three e = absurd (true≢false (sym e))
+no-such-lock (suc (suc (suc zero))) one two three e = absurd (true≢false (sym e))
+no-such-lock (suc (suc (suc (suc n)))) one two three e = refl
+
+in-turn : (x y : Bool) → (y && (x && true)) ≡ (x && y)
+in-turn true true = refl
+in-turn true false = refl
+in-turn false true = refl
+in-turn false false = refl
+
+-- pMin ≤ pMax and TMin ≤ TMax
+pub pairs-say : (a : List Setting) → orderedB a ≡ (inOrder a pMin pMax && inOrder a tMin tMax)
+unfolding orderedB orderedAt pairOf pairs pairInOrder allBelow
+pairs-say a = in-turn (inOrder a pMin pMax) (inOrder a tMin tMax)
 
 -- ---- settings that fit
 
@@ -90,9 +159,9 @@ module _ (a : List Setting) (e : settingsFitB a ≡ true) where
   pub natural-at : (k low high : ℕ) → k < settingCount → rowOf k .coefficient ≡ false → rowOf k .lowest ≡ pos low → rowOf k .highest ≡ pos high → NaturalIn low high (valueAt a k)
   natural-at k low high l c p q = natural-in low high (valueAt a k) (rw (p, q) at (whole-at k l c))
 
-  pub cp-in : NaturalIn 0 4 (valueAt a cp)
+  pub cp-in : NaturalIn 0 mostCode (valueAt a cp)
   unfolding rowOf rows
-  cp-in = natural-at cp 0 4 (omega arith) refl refl refl
+  cp-in = natural-at cp 0 mostCode (omega arith) refl refl refl
 
   pub pb-in : NaturalIn leastPb mostPb (valueAt a pb)
   unfolding rowOf rows

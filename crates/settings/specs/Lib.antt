@@ -1,2 +1,3 @@
 -- The settings: their table, which values fit, and the rights.
+pub mod Columns
 pub mod Settings

@@ -5,6 +5,11 @@ use ring::Book;
 use ring::Ring;
 use settings::Setting;
 use settings::Value;
+use settings::table::CHOICE_1;
+use settings::table::CUSTOMER;
+use settings::table::K_F;
+use settings::table::P_F;
+use settings::table::WEIGHT_1;
 use state::Alarms;
 use state::Cell;
 use state::Core;
@@ -75,15 +80,11 @@ pub fn with_setting(
 
 // Output 1 follows VmT and output 2 VbT. Output 3 is off. Output 4 follows VmD.
 fn settings_in_force() -> [Setting; settings::COUNT] {
-    let a = with_setting(
-        settings::factory_settings(),
-        settings::CHOICES,
-        Value::Whole(3),
-    );
-    let b = with_setting(a, settings::CHOICES + 1, Value::Whole(6));
-    let c = with_setting(b, settings::CHOICES + 3, Value::Whole(2));
-    let d = with_setting(c, settings::WEIGHTS + 1, Value::Whole(250));
-    with_setting(d, settings::WEIGHTS + 3, Value::Whole(1_000_000))
+    let a = with_setting(settings::factory_settings(), CHOICE_1, Value::Whole(3));
+    let b = with_setting(a, CHOICE_1 + 1, Value::Whole(6));
+    let c = with_setting(b, CHOICE_1 + 3, Value::Whole(2));
+    let d = with_setting(c, WEIGHT_1 + 1, Value::Whole(250));
+    with_setting(d, WEIGHT_1 + 3, Value::Whole(1_000_000))
 }
 
 // The accounts of outputs 1 and 2 are one below their weights. The buffer of output 2 is full, and its lost counter at its highest. Output 3 still has what waited when it
@@ -153,16 +154,10 @@ pub fn with_cell(x: Session, place: usize, c: Cell) -> Session {
     }
 }
 
-fn open_session() -> Session {
-    let none = state::no_session();
-    let cells = none.cells;
-    Session { live: true, cells }
-}
-
 // It has read K.F and staged p.F.
 fn keypad() -> Session {
-    let x = with_cell(open_session(), 15, seen(true, false));
-    with_cell(x, 13, staged(Value::Whole(150_000)))
+    let x = with_cell(staging::begun_session(), K_F, seen(true, false));
+    with_cell(x, P_F, staged(Value::Whole(150_000)))
 }
 
 // It has read the customer's number and staged it.
@@ -173,7 +168,7 @@ fn port() -> Session {
         read: true,
         overtaken: false,
     };
-    with_cell(open_session(), 20, c)
+    with_cell(staging::begun_session(), CUSTOMER, c)
 }
 
 // A session at the keypad, none at the port.

@@ -4,6 +4,10 @@ use outputs::Output;
 use ring::Book;
 use ring::Ring;
 use settings::Value;
+use settings::table::CHOICE_1;
+use settings::table::K_F;
+use settings::table::P_MAX;
+use settings::table::WEIGHT_1;
 use state::Alarms;
 use state::Cell;
 use state::Counters;
@@ -100,8 +104,8 @@ pub fn outputs(s: State, all: [Output; outputs::COUNT]) -> State {
 // Another choice, weight and account of one output. It is named by its place, from 0; what waits there and what was lost stay.
 pub fn output(s: State, k: usize, choice: i64, weight: i64, account: u64) -> State {
     if k < outputs::COUNT {
-        let chosen = setting(s, settings::CHOICES + k, Value::Whole(choice));
-        let weighed = setting(chosen, settings::WEIGHTS + k, Value::Whole(weight));
+        let chosen = setting(s, CHOICE_1 + k, Value::Whole(choice));
+        let weighed = setting(chosen, WEIGHT_1 + k, Value::Whole(weight));
         let core = s.core;
         let before = core.outputs;
         outputs(weighed, with_account(before, k, account))
@@ -152,6 +156,14 @@ pub fn cell(s: State, door: u64, place: usize, c: Cell) -> State {
     }
 }
 
+// The session at the keypad has staged this value of this setting, and nothing else.
+pub fn staged_alone(s: State, place: usize, v: Value) -> State {
+    keypad(
+        s,
+        base::with_cell(staging::begun_session(), place, base::staged(v)),
+    )
+}
+
 // Not whole: the month is not that of the time.
 pub fn not_whole(s: State) -> State {
     time(s, base::TIME, 39)
@@ -163,10 +175,10 @@ pub fn shut(s: State) -> State {
 
 // K.F, which door 1 has read, has been put in force through the other door since.
 pub fn stale(s: State) -> State {
-    cell(s, 1, 15, base::seen(true, true))
+    cell(s, 1, K_F, base::seen(true, true))
 }
 
 // pMax staged below pMin.
 pub fn crossed(s: State) -> State {
-    cell(s, 1, 7, base::staged(Value::Whole(80_000)))
+    cell(s, 1, P_MAX, base::staged(Value::Whole(80_000)))
 }

@@ -86,6 +86,11 @@ fn told(s: State, t: Lent) {
     }
 }
 
+// One command, over stores of their exact lengths.
+pub fn put_exact(s: State, c: Command) {
+    told(s, outcome(s, c, exact()));
+}
+
 // A start is lent nothing, and replaces the state.
 fn started(s: State, time: u64, supcode: u32, custcode: u32) {
     let a = panel::start(time, supcode, custcode);

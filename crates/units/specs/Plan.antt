@@ -6,11 +6,8 @@ use Prim.Native.Nat.{ℕ}
 use lib.Dec.{leb}
 use Rattle.units.specs.declared.Amounts.{Amounts}
 use Rattle.units.specs.declared.Amounts.the-variants.{TooLarge}
+use Rattle.ground.specs.Ranges.{mostCode}
 use Rattle.units.specs.Units.{mostPulses, pulseLitres, amountsOf}
-
--- the highest cp code
-abbrev pub mostCode : ℕ
-mostCode = 4
 
 unfoldable pub pulseGuarded : ℕ → ℕ
 pulseGuarded c = cond (leb c mostCode) (pulseLitres c) 0

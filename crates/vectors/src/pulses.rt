@@ -10,10 +10,10 @@ use print::gives;
 use print::number;
 use print::signed;
 use print::text;
-use settings::CHOICES;
 use settings::Setting;
 use settings::Value;
-use settings::WEIGHTS;
+use settings::table::CHOICE_1;
+use settings::table::WEIGHT_1;
 use units::BaseUnits;
 use units::Litres;
 
@@ -71,14 +71,14 @@ fn with(a: [Setting; settings::COUNT], place: usize, n: i64) -> [Setting; settin
 }
 
 fn rules(x: Four) -> [Setting; settings::COUNT] {
-    let a = with(settings::factory_settings(), CHOICES, x.one.choice);
-    let b = with(a, CHOICES + 1, x.two.choice);
-    let c = with(b, CHOICES + 2, x.three.choice);
-    let d = with(c, CHOICES + 3, x.four.choice);
-    let e = with(d, WEIGHTS, x.one.weight);
-    let f = with(e, WEIGHTS + 1, x.two.weight);
-    let g = with(f, WEIGHTS + 2, x.three.weight);
-    with(g, WEIGHTS + 3, x.four.weight)
+    let a = with(settings::factory_settings(), CHOICE_1, x.one.choice);
+    let b = with(a, CHOICE_1 + 1, x.two.choice);
+    let c = with(b, CHOICE_1 + 2, x.three.choice);
+    let d = with(c, CHOICE_1 + 3, x.four.choice);
+    let e = with(d, WEIGHT_1, x.one.weight);
+    let f = with(e, WEIGHT_1 + 1, x.two.weight);
+    let g = with(f, WEIGHT_1 + 2, x.three.weight);
+    with(g, WEIGHT_1 + 3, x.four.weight)
 }
 
 fn rule(x: Case) {

@@ -1,4 +1,6 @@
 // The settings: which values fit, the factory values, the rights, and the pairs in order.
+use print::LEAST;
+use print::MOST;
 use print::end;
 use print::flag;
 use print::float;
@@ -6,12 +8,23 @@ use print::gives;
 use print::infinity;
 use print::not_a_number;
 use print::number;
+use print::one_above;
+use print::one_below;
 use print::pattern;
 use print::signed;
 use print::text;
+use print::trimmed;
 use print::whole;
 use settings::Setting;
 use settings::Value;
+use settings::table::LOCKS;
+use settings::table::P_MAX;
+use settings::table::P_MIN;
+use settings::table::Row;
+use settings::table::T_MAX;
+use settings::table::T_MIN;
+use settings::table::lock_of;
+use settings::table::row_of;
 
 // A value that does not fit stands in brackets.
 fn asked(place: usize, n: i64) {
@@ -34,60 +47,22 @@ fn asked_float(place: usize, x: f64) {
     }
 }
 
-// Every end of every range, and one past each.
-fn small_wholes(k: usize) {
-    asked(k, -9_223_372_036_854_775_808);
-    asked(k, -10_001);
-    asked(k, -10_000);
-    asked(k, -1);
-    asked(k, 0);
-    asked(k, 1);
-    asked(k, 2);
-    asked(k, 4);
-    asked(k, 5);
-    asked(k, 6);
-    asked(k, 7);
-    asked(k, 1_000);
-    asked(k, 1_001);
-    asked(k, 3_000);
-    asked(k, 3_001);
-    asked(k, 4_999);
-    asked(k, 5_000);
-    asked(k, 5_999);
-    asked(k, 6_000);
-    asked(k, 9_999);
-    asked(k, 10_000);
+// Both ends of the row's range and one past each, between the ends of what a number can be. A coefficient is of the wrong kind.
+fn of_whole(k: usize, r: Row) {
+    asked(k, LEAST);
+    asked(k, one_below(r.lowest));
+    asked(k, r.lowest);
+    asked(k, r.highest);
+    asked(k, one_above(r.highest));
+    asked(k, MOST);
+    asked_float(k, 0.0);
+    asked_float(k, 1.0);
 }
 
-fn large_wholes(k: usize) {
-    asked(k, 12_000);
-    asked(k, 12_001);
-    asked(k, 14_000);
-    asked(k, 14_001);
-    asked(k, 20_000);
-    asked(k, 20_001);
-    asked(k, 27_314);
-    asked(k, 27_315);
-    asked(k, 29_815);
-    asked(k, 29_816);
-    asked(k, 89_999);
-    asked(k, 90_000);
-    asked(k, 110_000);
-    asked(k, 110_001);
-    asked(k, 1_000_000);
-    asked(k, 1_000_001);
-    asked(k, 10_000_000);
-    asked(k, 10_000_001);
-    asked(k, 999_999_999);
-    asked(k, 1_000_000_000);
-    asked(k, 9_223_372_036_854_775_807);
-}
-
-fn coefficients(k: usize) {
+// Any finite float fits. A whole number is of the wrong kind.
+fn of_coefficient(k: usize) {
     asked_float(k, 0.0);
     asked_float(k, -0.0);
-    asked_float(k, -40.0);
-    asked_float(k, 0.0078125);
     asked_float(k, 1.0);
     asked_float(k, 1.7976931348623157e308);
     asked_float(k, -1.7976931348623157e308);
@@ -96,23 +71,45 @@ fn coefficients(k: usize) {
     asked_float(k, infinity());
     asked_float(k, -infinity());
     asked_float(k, not_a_number());
+    asked(k, 0);
+    asked(k, 1);
 }
 
-fn fits(setting: u64, place: usize) {
-    text(b"fits");
-    number(setting);
-    gives();
-    small_wholes(place);
-    large_wholes(place);
-    coefficients(place);
+fn fits(k: usize, r: Row) {
+    asked_of(b"fits", k);
+    if r.coefficient {
+        of_coefficient(k);
+    } else {
+        of_whole(k, r);
+    }
     end();
 }
 
-fn factory(setting: u64, place: usize) {
-    text(b"factory");
-    number(setting);
+// A question about the setting at a place: its number is one more.
+fn asked_of(question: &[u8], k: usize) {
+    text(question);
+    number(std::num::wrapping_add_u64(k as u64, 1));
     gives();
-    let set = settings::factory(place);
+}
+
+// What the row says of itself: number, name, unit, lock.
+fn row(k: usize, r: Row) {
+    let name = r.name;
+    let unit = r.unit;
+    asked_of(b"row", k);
+    number(r.number);
+    text(b" ");
+    trimmed(&name);
+    text(b"; ");
+    trimmed(&unit);
+    text(b";");
+    number(r.lock as u64);
+    end();
+}
+
+fn factory(k: usize) {
+    asked_of(b"factory", k);
+    let set = settings::factory(k);
     let value = set.value;
     match value {
         Value::Whole(n) => signed(n),
@@ -121,62 +118,62 @@ fn factory(setting: u64, place: usize) {
     end();
 }
 
-// The locks as three binary digits counted up, the calibration lock first.
-fn rights(setting: u64, place: usize) {
-    text(b"rights");
-    number(setting);
-    gives();
-    flag(settings::right_for(place, false, false, false));
-    flag(settings::right_for(place, false, false, true));
-    flag(settings::right_for(place, false, true, false));
-    flag(settings::right_for(place, false, true, true));
-    flag(settings::right_for(place, true, false, false));
-    flag(settings::right_for(place, true, false, true));
-    flag(settings::right_for(place, true, true, false));
-    flag(settings::right_for(place, true, true, true));
+// The open locks as three binary digits, the calibration lock first.
+fn right(k: usize, digits: u64) {
+    let cal = digits / 4 % 2 == 1;
+    let sup = digits / 2 % 2 == 1;
+    let cust = digits % 2 == 1;
+    flag(settings::right_for(k, cal, sup, cust));
+}
+
+fn with_each_set(k: usize) {
+    for digits in 0..8 {
+        right(k, digits);
+    }
+}
+
+fn rights(k: usize) {
+    asked_of(b"rights", k);
+    with_each_set(k);
     end();
 }
 
-// A place in the table is the setting's number less one.
-fn setting(number: u64, place: usize) {
-    fits(number, place);
-    factory(number, place);
-    rights(number, place);
+// What a lock's row says: number, name, and which of the three locks give its right.
+fn lock(n: u8) {
+    let r = lock_of(n);
+    let name = r.name;
+    text(b"lock");
+    number(n as u64);
+    gives();
+    number(r.number as u64);
+    text(b" ");
+    trimmed(&name);
+    flag(r.cal);
+    flag(r.sup);
+    flag(r.cust);
+    end();
 }
 
+// There is no lock 0, and none after the last.
+fn every_lock() {
+    for n in 0..LOCKS + 2 {
+        lock(n);
+    }
+}
+
+fn setting(k: usize) {
+    let r = row_of(k);
+    row(k, r);
+    fits(k, r);
+    factory(k);
+    rights(k);
+}
+
+// After the last row comes what is asked of a setting that does not exist.
 fn every_setting() {
-    setting(1, 0);
-    setting(2, 1);
-    setting(3, 2);
-    setting(4, 3);
-    setting(5, 4);
-    setting(6, 5);
-    setting(7, 6);
-    setting(8, 7);
-    setting(9, 8);
-    setting(10, 9);
-    setting(11, 10);
-    setting(12, 11);
-    setting(13, 12);
-    setting(14, 13);
-    setting(15, 14);
-    setting(16, 15);
-    setting(17, 16);
-    setting(18, 17);
-    setting(19, 18);
-    setting(20, 19);
-    setting(21, 20);
-    setting(22, 21);
-    setting(23, 22);
-    setting(24, 23);
-    setting(25, 24);
-    setting(26, 25);
-    setting(27, 26);
-    setting(28, 27);
-    setting(29, 28);
-    // There is no such setting.
-    fits(30, 29);
-    rights(30, 29);
+    for k in 0..settings::COUNT + 1 {
+        setting(k);
+    }
 }
 
 fn with(a: [Setting; settings::COUNT], place: usize, n: i64) -> [Setting; settings::COUNT] {
@@ -196,16 +193,23 @@ fn pairs(p_min: i64, p_max: i64, t_min: i64, t_max: i64) {
     signed(t_min);
     signed(t_max);
     gives();
-    let a = with(settings::factory_settings(), settings::P_MIN, p_min);
-    let b = with(a, settings::P_MAX, p_max);
-    let c = with(b, settings::T_MIN, t_min);
-    let d = with(c, settings::T_MAX, t_max);
+    let a = with(settings::factory_settings(), P_MIN, p_min);
+    let b = with(a, P_MAX, p_max);
+    let c = with(b, T_MIN, t_min);
+    let d = with(c, T_MAX, t_max);
     flag(settings::pairs_ordered(d));
     flag(settings::settings_fit(d));
     end();
 }
 
+// In order, but one below its range.
+fn out_of_range() {
+    let r = row_of(P_MIN);
+    pairs(one_below(r.lowest), 700_000, -2_000, 6_000);
+}
+
 pub fn run() {
+    every_lock();
     every_setting();
     pairs(90_000, 700_000, -2_000, 6_000);
     // H12
@@ -215,5 +219,5 @@ pub fn run() {
     pairs(90_000, 700_000, 6_001, 6_000);
     pairs(90_000, 700_000, 6_000, 6_000);
     pairs(90_000, 700_000, -2_000, -2_001);
-    pairs(9_999, 700_000, -2_000, 6_000);
+    out_of_range();
 }

@@ -3,7 +3,7 @@
 use mathlib.Core.Path.{sym}
 use borrow.Author.Needs.{needs, sfits-of}
 use Rattle.ground.proofs.Signed.{lt-back}
-use Rattle.settings.specs.Settings.{inOrder}
+use Rattle.settings.specs.Settings.{inOrder, pairInOrder}
 use Rattle.settings.proofs.in_order.Statement.{statement}
 use Rattle.settings.proofs.in_order.Tie as tie
 
@@ -23,7 +23,7 @@ less-requires : tie.Need-less-requires
 less-requires c κs = search needs
 
 returns : tie.Need-returns
-unfolding inOrder
+unfolding inOrder pairInOrder
 returns c =
     let n = c .before .whole-of2 in
     let m = c .before .before .whole-of in

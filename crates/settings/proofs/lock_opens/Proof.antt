@@ -1,9 +1,21 @@
--- `settings::lock_opens` meets its contract, lock by lock.
+-- `settings::lock_opens` meets its contract, by that of `lock_of`.
 -- Assumes nothing.
 use borrow.Author.Needs.{needs}
 use Rattle.settings.specs.Settings.{opensB}
 use Rattle.settings.proofs.lock_opens.Statement.{statement}
 use Rattle.settings.proofs.lock_opens.Tie as tie
+
+lock-of-requires : tie.Need-lock-of-requires
+lock-of-requires c κs = search needs
+
+both-requires : tie.Need-both-requires
+both-requires c κs = search needs
+
+both-requires-2 : tie.Need-both-requires-2
+both-requires-2 c κs = search needs
+
+both-requires-3 : tie.Need-both-requires-3
+both-requires-3 c κs = search needs
 
 either-requires : tie.Need-either-requires
 either-requires c κs = search needs
@@ -11,24 +23,18 @@ either-requires c κs = search needs
 either-requires-2 : tie.Need-either-requires-2
 either-requires-2 c κs = search needs
 
-either-requires-3 : tie.Need-either-requires-3
-either-requires-3 c κs = search needs
-
 returns : tie.Need-returns
 unfolding opensB
-returns c = simp (c .if1 .taken)
-
-returns-2 : tie.Need-returns-2
-unfolding opensB
-returns-2 c = simp (c .either .ensures, c .before .before .if1 .left, c .before .if2 .taken)
-
-returns-3 : tie.Need-returns-3
-unfolding opensB
-returns-3 c = simp (c .either3 .ensures, c .before .either2 .ensures, c .before .before .before .before .if1 .left, c .before .before .before .if2 .left, c .before .before .if3 .taken)
-
-returns-4 : tie.Need-returns-4
-unfolding opensB
-returns-4 c = simp (c .before .before .if1 .left, c .before .if2 .left, c .if3 .left)
+returns c =
+    simp (
+      c .either2 .ensures,
+      c .before .either .ensures,
+      c .before .before .both3 .ensures,
+      c .before .before .before .both2 .ensures,
+      c .before .before .before .before .both .ensures,
+      c .before .before .before .before .before .lock-of .ensures,
+    )
 
 pub lock-opens-spec : {M : Type 1} → statement M
-lock-opens-spec = tie.close (tie.spec returns either-requires returns-2 either-requires-2 either-requires-3 returns-3 returns-4)
+lock-opens-spec =
+    tie.close (tie.spec lock-of-requires both-requires both-requires-2 both-requires-3 either-requires either-requires-2 returns)

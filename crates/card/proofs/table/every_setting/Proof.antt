@@ -1,16 +1,17 @@
--- `table::every_setting` is safe and ends: the place stays below 29.
+-- `table::every_setting` is safe and ends: the place goes up to the number of settings.
 -- Assumes nothing.
 use Prim.Native.Nat.{_≤_, _-_}
 use native.Mathlib.Omega.{arith}
 use borrow.Author.Needs.{needs}
+use Rattle.settings.specs.Settings.{settingCount}
 use Rattle.card.proofs.table.every_setting.Statement.{statement}
 use Rattle.card.proofs.table.every_setting.Tie as tie
 
 abbrev Inv-loop : tie.InvT-loop
-Inv-loop k₀ k = k ≤ 29
+Inv-loop k₀ k = k ≤ settingCount
 
 abbrev μ-loop : tie.MeasureT-loop
-μ-loop k₀ k = 29 - k
+μ-loop k₀ k = settingCount - k
 
 loop-holds : tie.Need-loop-holds Inv-loop μ-loop
 loop-holds c = omega arith

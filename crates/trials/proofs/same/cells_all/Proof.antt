@@ -1,16 +1,17 @@
--- `same::cells_all` is safe and ends: the place stays below 29.
+-- `same::cells_all` is safe and ends: the place goes up to the number of settings.
 -- Assumes nothing.
 use Prim.Native.Nat.{_≤_, _-_}
 use native.Mathlib.Omega.{arith}
 use borrow.Author.Needs.{needs}
+use Rattle.settings.specs.Settings.{settingCount}
 use Rattle.trials.proofs.same.cells_all.Statement.{statement}
 use Rattle.trials.proofs.same.cells_all.Tie as tie
 
 abbrev Inv-loop : tie.InvT-loop
-Inv-loop a b good₀ k₀ good k = k ≤ 29
+Inv-loop a b good₀ k₀ good k = k ≤ settingCount
 
 abbrev μ-loop : tie.MeasureT-loop
-μ-loop a b good₀ k₀ good k = 29 - k
+μ-loop a b good₀ k₀ good k = settingCount - k
 
 loop-holds : tie.Need-loop-holds Inv-loop μ-loop
 loop-holds c = omega arith
