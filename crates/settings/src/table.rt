@@ -74,66 +74,128 @@ pub fn lock_of(lock: u8) -> Lock
     }
 }
 
-// ---- the places of the settings in the table, from 0
+// ---- the place of each setting in the table, from 0, and its name
 
+// A name is a constant, because a text written in the row itself would be laid out in memory at every call of `row_of`.
 pub const CP: usize = 0;
+
+const CP_NAME: [u8; NAME] = *b"cp code c         ";
 
 pub const PB: usize = 1;
 
+const PB_NAME: [u8; NAME] = *b"pb                ";
+
 pub const TB: usize = 2;
+
+const TB_NAME: [u8; NAME] = *b"Tb                ";
 
 pub const MD_P: usize = 3;
 
+const MD_P_NAME: [u8; NAME] = *b"Md.p              ";
+
 pub const MD_T: usize = 4;
+
+const MD_T_NAME: [u8; NAME] = *b"Md.T              ";
 
 pub const MD_K: usize = 5;
 
+const MD_K_NAME: [u8; NAME] = *b"Md.K              ";
+
 pub const P_MIN: usize = 6;
+
+const P_MIN_NAME: [u8; NAME] = *b"pMin              ";
 
 pub const P_MAX: usize = 7;
 
+const P_MAX_NAME: [u8; NAME] = *b"pMax              ";
+
 pub const T_MIN: usize = 8;
+
+const T_MIN_NAME: [u8; NAME] = *b"TMin              ";
 
 pub const T_MAX: usize = 9;
 
+const T_MAX_NAME: [u8; NAME] = *b"TMax              ";
+
 pub const EQ1: usize = 10;
+
+const EQ1_NAME: [u8; NAME] = *b"Eq1.T             ";
 
 pub const EQ2: usize = 11;
 
+const EQ2_NAME: [u8; NAME] = *b"Eq2.T             ";
+
 pub const EQ3: usize = 12;
+
+const EQ3_NAME: [u8; NAME] = *b"Eq3.T             ";
 
 pub const P_F: usize = 13;
 
+const P_F_NAME: [u8; NAME] = *b"p.F               ";
+
 pub const T_F: usize = 14;
+
+const T_F_NAME: [u8; NAME] = *b"T.F               ";
 
 pub const K_F: usize = 15;
 
+const K_F_NAME: [u8; NAME] = *b"K.F               ";
+
 pub const HO_B: usize = 16;
+
+const HO_B_NAME: [u8; NAME] = *b"Ho.b              ";
 
 pub const CO2: usize = 17;
 
+const CO2_NAME: [u8; NAME] = *b"CO2               ";
+
 pub const H2: usize = 18;
+
+const H2_NAME: [u8; NAME] = *b"H2                ";
 
 pub const RHOB: usize = 19;
 
+const RHOB_NAME: [u8; NAME] = *b"Rhob              ";
+
 pub const CUSTOMER: usize = 20;
+
+const CUSTOMER_NAME: [u8; NAME] = *b"customer's number ";
 
 // The choices of the four outputs, then their weights.
 pub const CHOICE_1: usize = 21;
 
+const CHOICE_1_NAME: [u8; NAME] = *b"choice of output 1";
+
 pub const CHOICE_2: usize = CHOICE_1 + 1;
+
+const CHOICE_2_NAME: [u8; NAME] = *b"choice of output 2";
 
 pub const CHOICE_3: usize = CHOICE_1 + 2;
 
+const CHOICE_3_NAME: [u8; NAME] = *b"choice of output 3";
+
 pub const CHOICE_4: usize = CHOICE_1 + 3;
+
+const CHOICE_4_NAME: [u8; NAME] = *b"choice of output 4";
 
 pub const WEIGHT_1: usize = 25;
 
+const WEIGHT_1_NAME: [u8; NAME] = *b"weight of output 1";
+
 pub const WEIGHT_2: usize = WEIGHT_1 + 1;
+
+const WEIGHT_2_NAME: [u8; NAME] = *b"weight of output 2";
 
 pub const WEIGHT_3: usize = WEIGHT_1 + 2;
 
+const WEIGHT_3_NAME: [u8; NAME] = *b"weight of output 3";
+
 pub const WEIGHT_4: usize = WEIGHT_1 + 3;
+
+const WEIGHT_4_NAME: [u8; NAME] = *b"weight of output 4";
+
+// Past the last one.
+const NO_NAME: [u8; NAME] = *b"-                 ";
 
 // ---- units
 
@@ -258,36 +320,36 @@ pub fn row_of(k: usize) -> Row
     ensures { λ r. ⌜ r ≡ rowOf k ⌝ }
 {
     match k {
-        CP => whole_row(1, *b"cp code c         ", PULSE, 0, TOP_CP, 1, CAL),
-        PB => whole_row(2, *b"pb                ", PA, LOW_PB, TOP_PB, 101_325, CAL),
-        TB => whole_row(3, *b"Tb                ", KEL, LOW_TB, TOP_TB, 27_315, CAL),
-        MD_P => whole_row(4, *b"Md.p              ", P_MODE, 0, 1, 1, CAL),
-        MD_T => whole_row(5, *b"Md.T              ", T_MODE, 0, 1, 1, CAL),
-        MD_K => whole_row(6, *b"Md.K              ", K_MODE, 0, 1, 0, CAL),
-        P_MIN => whole_row(7, *b"pMin              ", PA, LOW_P, TOP_P, 90_000, CAL),
-        P_MAX => whole_row(8, *b"pMax              ", PA, LOW_P, TOP_P, 700_000, CAL),
-        T_MIN => whole_row(9, *b"TMin              ", DEG, LOW_T, TOP_T, -2_000, CAL),
-        T_MAX => whole_row(10, *b"TMax              ", DEG, LOW_T, TOP_T, 6_000, CAL),
-        EQ1 => float_row(11, *b"Eq1.T             ", NONE, -40.0, CAL),
-        EQ2 => float_row(12, *b"Eq2.T             ", NONE, 0.0078125, CAL),
-        EQ3 => float_row(13, *b"Eq3.T             ", NONE, 0.0, CAL),
-        P_F => whole_row(14, *b"p.F               ", PA, LOW_P, TOP_P, 101_325, SUP),
-        T_F => whole_row(15, *b"T.F               ", DEG, LOW_T, TOP_T, 1_500, SUP),
-        K_F => whole_row(16, *b"K.F               ", FOUR, LOW_K, TOP_K, K_SCALE, SUP),
-        HO_B => whole_row(17, *b"Ho.b              ", KWH, 5_000, 14_000, 11_000, SUP),
-        CO2 => whole_row(18, *b"CO2               ", PCT, 0, 3_000, 100, SUP),
-        H2 => whole_row(19, *b"H2                ", PCT, 0, 1_000, 0, SUP),
-        RHOB => whole_row(20, *b"Rhob              ", KG, 6_000, 12_000, 8_000, SUP),
-        CUSTOMER => whole_row(21, *b"customer's number ", NONE, 0, 999_999_999, 0, CUST),
-        CHOICE_1 => whole_row(22, *b"choice of output 1", FOLLOWS, 0, TOP_CHOICE, 0, SUP),
-        CHOICE_2 => whole_row(23, *b"choice of output 2", FOLLOWS, 0, TOP_CHOICE, 0, SUP),
-        CHOICE_3 => whole_row(24, *b"choice of output 3", FOLLOWS, 0, TOP_CHOICE, 0, SUP),
-        CHOICE_4 => whole_row(25, *b"choice of output 4", FOLLOWS, 0, TOP_CHOICE, 0, SUP),
-        WEIGHT_1 => whole_row(26, *b"weight of output 1", LITRE, LOW_W, TOP_W, FAC_W, SUP),
-        WEIGHT_2 => whole_row(27, *b"weight of output 2", LITRE, LOW_W, TOP_W, FAC_W, SUP),
-        WEIGHT_3 => whole_row(28, *b"weight of output 3", LITRE, LOW_W, TOP_W, FAC_W, SUP),
-        WEIGHT_4 => whole_row(29, *b"weight of output 4", LITRE, LOW_W, TOP_W, FAC_W, SUP),
-        _ => whole_row(0, *b"-                 ", NONE, 0, 0, 0, 0),
+        CP => whole_row(1, CP_NAME, PULSE, 0, TOP_CP, 1, CAL),
+        PB => whole_row(2, PB_NAME, PA, LOW_PB, TOP_PB, 101_325, CAL),
+        TB => whole_row(3, TB_NAME, KEL, LOW_TB, TOP_TB, 27_315, CAL),
+        MD_P => whole_row(4, MD_P_NAME, P_MODE, 0, 1, 1, CAL),
+        MD_T => whole_row(5, MD_T_NAME, T_MODE, 0, 1, 1, CAL),
+        MD_K => whole_row(6, MD_K_NAME, K_MODE, 0, 1, 0, CAL),
+        P_MIN => whole_row(7, P_MIN_NAME, PA, LOW_P, TOP_P, 90_000, CAL),
+        P_MAX => whole_row(8, P_MAX_NAME, PA, LOW_P, TOP_P, 700_000, CAL),
+        T_MIN => whole_row(9, T_MIN_NAME, DEG, LOW_T, TOP_T, -2_000, CAL),
+        T_MAX => whole_row(10, T_MAX_NAME, DEG, LOW_T, TOP_T, 6_000, CAL),
+        EQ1 => float_row(11, EQ1_NAME, NONE, -40.0, CAL),
+        EQ2 => float_row(12, EQ2_NAME, NONE, 0.0078125, CAL),
+        EQ3 => float_row(13, EQ3_NAME, NONE, 0.0, CAL),
+        P_F => whole_row(14, P_F_NAME, PA, LOW_P, TOP_P, 101_325, SUP),
+        T_F => whole_row(15, T_F_NAME, DEG, LOW_T, TOP_T, 1_500, SUP),
+        K_F => whole_row(16, K_F_NAME, FOUR, LOW_K, TOP_K, K_SCALE, SUP),
+        HO_B => whole_row(17, HO_B_NAME, KWH, 5_000, 14_000, 11_000, SUP),
+        CO2 => whole_row(18, CO2_NAME, PCT, 0, 3_000, 100, SUP),
+        H2 => whole_row(19, H2_NAME, PCT, 0, 1_000, 0, SUP),
+        RHOB => whole_row(20, RHOB_NAME, KG, 6_000, 12_000, 8_000, SUP),
+        CUSTOMER => whole_row(21, CUSTOMER_NAME, NONE, 0, 999_999_999, 0, CUST),
+        CHOICE_1 => whole_row(22, CHOICE_1_NAME, FOLLOWS, 0, TOP_CHOICE, 0, SUP),
+        CHOICE_2 => whole_row(23, CHOICE_2_NAME, FOLLOWS, 0, TOP_CHOICE, 0, SUP),
+        CHOICE_3 => whole_row(24, CHOICE_3_NAME, FOLLOWS, 0, TOP_CHOICE, 0, SUP),
+        CHOICE_4 => whole_row(25, CHOICE_4_NAME, FOLLOWS, 0, TOP_CHOICE, 0, SUP),
+        WEIGHT_1 => whole_row(26, WEIGHT_1_NAME, LITRE, LOW_W, TOP_W, FAC_W, SUP),
+        WEIGHT_2 => whole_row(27, WEIGHT_2_NAME, LITRE, LOW_W, TOP_W, FAC_W, SUP),
+        WEIGHT_3 => whole_row(28, WEIGHT_3_NAME, LITRE, LOW_W, TOP_W, FAC_W, SUP),
+        WEIGHT_4 => whole_row(29, WEIGHT_4_NAME, LITRE, LOW_W, TOP_W, FAC_W, SUP),
+        _ => whole_row(0, NO_NAME, NONE, 0, 0, 0, 0),
     }
 }
 
