@@ -14,7 +14,7 @@ from itertools import combinations
 from math import floor, inf, isfinite, nan
 
 from settings import OPENING, PAIRS, ROWS
-from vectors import END_OF_TIME, month_of
+from vectors import END_OF_TIME, message, month_of
 
 MOST = 2**64 - 1
 LITRES, BASE_UNITS = 10**12, 10**17
@@ -216,6 +216,7 @@ NUMBER = {
     "unheld": 13,
     "large": 14,
     "long": 15,
+    "short": 16,
 }
 
 LENT = {
@@ -239,6 +240,7 @@ def reasons(command, s, args, lengths={}):
         "report": lambda: {},
         "outputs": lambda: {},
         "tick": lambda n: {"long": n > 600},
+        "readout": lambda room: {"short": room < 156},
         "log": lambda i: {"unheld": i >= s.log[0]},
         "archive": lambda i: {"unheld": i >= s.archive[0]},
         "audit": lambda i: {"unheld": i >= s.audit[0]},
@@ -265,7 +267,7 @@ def rights(s, session):
 def fate(command, s, args):
     """If it is not refused: what comes back, compared with what went in."""
     x = s.doors.get(args[0]) if args else None
-    if command in ("report", "outputs", "log", "archive", "audit"):
+    if command in ("report", "outputs", "readout", "log", "archive", "audit"):
         return "same"
     if command == "tick":
         return "changed" if any(min(args[0], waiting) for _, waiting, _ in s.outputs) else "same"
@@ -284,7 +286,7 @@ def fate(command, s, args):
     return "changed"
 
 
-GIVES_VALUE = ("report", "outputs", "tick", "log", "archive", "audit", "read")
+GIVES_VALUE = ("report", "outputs", "readout", "tick", "log", "archive", "audit", "read")
 tried = set()
 
 
@@ -322,6 +324,7 @@ ACCEPTED = [
     ("archive", (0,)),
     ("tick", (5,)),
     ("outputs", ()),
+    ("readout", (156,)),
     ("cycle", (SOON, 10)),
     ("begin", (2,)),
     ("abandon", (1,)),
@@ -336,6 +339,7 @@ ALL = ALL + each("open", (0, 1234), (4, 0), (MOST, 0), (2, 0), (3, 1234)) + each
 ALL = ALL + each("log", (250,), (MOST,)) + each("archive", (15,), (MOST,)) + each("audit", (12,), (MOST,))
 ALL = ALL + each("cycle", (EARLY, 10), (SOON, 600), (LATE, 10), (EARLY, 601), (SOON, 601), (LATE, 601), (EARLY, MOST), (SOON, MOST), (MOST, MOST))
 ALL = ALL + each("tick", (0,), (600,), (601,), (MOST,))
+ALL = ALL + each("readout", (0,), (155,), (157,), (200,))
 ALL = ALL + each("begin", (0,), (1,), (3,)) + each("abandon", (0,), (2,), (3,)) + each("commit", (0,), (2,), (3,))
 ALL = ALL + each("read", (0, 1), (3, 1), (1, 0), (1, NONE), (3, NONE), (2, NONE), (2, 1), (1, CHOICE), (1, LAST), (2, LAST))
 ALL = ALL + each("write", (0, 1, 1), (3, 11, 1), (1, NONE, 1), (1, 0, 1), (2, NONE, 1), (2, 1, 1), (2, 11, 1), (1, 1, 1.0), (1, 11, 1))
@@ -574,6 +578,24 @@ def order():
         put("no lock open, stale, crossed", t.crossed().stale().shut(), ALL)
 
 
+# ---- readouts into lent buffers
+
+
+def buffers():
+    """What is refused leaves every byte; what is not leaves those past the message, and those that were not lent."""
+    s = State()
+    low = s.but(counters=[0, 0, 0, 99_999, 199_999, 299_998])
+    for title, t in (("whole", s), ("no litre yet", low), ("month 39", s.not_whole())):
+        print("%s, into a buffer" % title)
+        vm, vmd, vmt, vb, vbd, vbt = t.counters
+        said = message([vb // 100_000, vbd // 100_000, vbt // 100_000, vm, vmd, vmt])
+        for room in (0, 1, 155, 156, 157, 200):
+            number = 1 if not whole(t) else 16 if room < 156 else 0
+            before = b"\x55" * 200
+            after = before if number else said + before[156:]
+            print("  readout into %d: %d %s" % (room, number, after.hex()))
+
+
 # ---- every two reasons that can hold together
 
 REASONS = {
@@ -583,6 +605,7 @@ REASONS = {
     "report": ["not-whole"],
     "outputs": ["not-whole"],
     "tick": ["not-whole", "long"],
+    "readout": ["not-whole", "short"],
     "log": ["not-whole", "length", "unheld"],
     "archive": ["not-whole", "length", "unheld"],
     "audit": ["not-whole", "length", "unheld"],
@@ -615,4 +638,5 @@ if __name__ == "__main__":
     rows()
     lengths()
     order()
+    buffers()
     all_tried()

@@ -3,6 +3,13 @@
 use crate::device::{ArchiveLine, AuditLine, Cycle, Device, LogLine, Refusal, Report, Value};
 use crate::output::{OutputReport, OUTPUTS};
 
+/// The longest buffer that is lent to a readout.
+pub const MOST_LENT: usize = 200;
+/// Every byte of a lent buffer before the readout. No message has this byte,
+/// so that what was written can be told from what was not.
+const LENT_BYTE: u8 = 0xaa;
+
+/// What a line asks for. The length of a readout is that of the lent buffer.
 #[derive(Clone, Copy, Debug, PartialEq)]
 pub enum Command {
     Start { time: u64, code2: u32, code3: u32 },
@@ -18,13 +25,14 @@ pub enum Command {
     Tick { named: u64 },
     Report,
     Outputs,
+    Readout { length: usize },
     Archive { index: u64 },
     Log { index: u64 },
     Audit { index: u64 },
 }
 
 /// What a command that was done gives back.
-#[derive(Clone, Copy, Debug, PartialEq)]
+#[derive(Clone, Debug, PartialEq)]
 pub enum Done {
     Nothing,
     Value(Value),
@@ -32,6 +40,8 @@ pub enum Done {
     Emitted([u64; OUTPUTS]),
     Report(Report),
     Outputs([OutputReport; OUTPUTS]),
+    /// The whole lent buffer, with the message in it.
+    Readout(Vec<u8>),
     Archive(ArchiveLine),
     Log(LogLine),
     Audit(AuditLine),
@@ -56,6 +66,10 @@ pub fn obey(device: &mut Device, command: &Command) -> Answer {
         Command::Tick { named } => device.tick(named).map(Done::Emitted),
         Command::Report => device.report().map(Done::Report),
         Command::Outputs => device.outputs().map(Done::Outputs),
+        Command::Readout { length } => {
+            let mut buffer = vec![LENT_BYTE; length];
+            device.readout(&mut buffer).map(|()| Done::Readout(buffer))
+        }
         Command::Archive { index } => device.archive(index).map(Done::Archive),
         Command::Log { index } => device.log(index).map(Done::Log),
         Command::Audit { index } => device.audit(index).map(Done::Audit),

@@ -4,14 +4,16 @@
 use std::fmt::Write;
 
 use crate::calendar::{first_day, month_of_day, SECONDS_A_DAY, SIX_O_CLOCK};
-use crate::command::{obey, Command};
+use crate::command::{obey, Command, MOST_LENT};
 use crate::device::{
     factor, measured_temperature, temperature_float, Cells, Counters, Device, Totals, Value,
     ALARM_K, ALARM_P, ALARM_T, ARCHIVE_LINES, AUDIT_LINES, FIRST_CHOICE, FIRST_WEIGHT, KELVIN, K_F,
-    LOG_LINES, MD_K, MD_P, MD_T, OUTPUT_ROWS, PB, SETTINGS, TB, T_F, VB_MODULUS, VM_MODULUS,
+    LOG_LINES, MD_K, MD_P, MD_T, OUTPUT_ROWS, PB, SETTINGS, TB, T_F, UNITS_A_LITRE, VB_MODULUS,
+    VM_MODULUS,
 };
-use crate::lines::{read_line, write_answer, Line};
+use crate::lines::{read_line, read_words, unsigned, write_answer, Line, LONGEST_LINE};
 use crate::output::{Output, BUFFER, CHOICES, LOST_MODULUS, OFF, OUTPUTS, TICK_LIMIT};
+use crate::readout::{litres, MESSAGE_LENGTH};
 use crate::script::Script;
 use crate::table::{Range, Setting, LOCKS, LOCK_SETS, PAGE};
 
@@ -19,7 +21,7 @@ use crate::table::{Range, Setting, LOCKS, LOCK_SETS, PAGE};
 /// 1 and 14 are not among them: a device that is only given commands stays
 /// whole, and within the ranges of the settings no cycle's amount is a tenth
 /// of 10^17.
-const COMMANDS: [(&str, &[u8]); 16] = [
+const COMMANDS: [(&str, &[u8]); 17] = [
     ("start", &[0, 6]),
     ("cycle", &[0, 5, 6, 7]),
     ("begin", &[0, 2, 3]),
@@ -36,8 +38,9 @@ const COMMANDS: [(&str, &[u8]); 16] = [
     ("audit", &[0, 13]),
     ("tick", &[0, 15]),
     ("outputs", &[0]),
+    ("readout", &[0, 16]),
 ];
-const NUMBERS: usize = 16;
+const NUMBERS: usize = 17;
 
 fn row_of(command: &Command) -> usize {
     match command {
@@ -57,6 +60,7 @@ fn row_of(command: &Command) -> usize {
         Command::Audit { .. } => 13,
         Command::Tick { .. } => 14,
         Command::Outputs => 15,
+        Command::Readout { .. } => 16,
     }
 }
 
@@ -121,7 +125,7 @@ enum Event {
     StaleAndPair,
     LockMissingAndPair,
     StartRefusedInUse,
-    // These and those after them are of request Three.
+    // These are of request Three.
     VmFollowed,
     VmDisturbedFollowed,
     VmTotalFollowed,
@@ -169,9 +173,31 @@ enum Event {
     LockMissingForOutput,
     ChoiceRefused,
     WeightRefused,
+    // These are of request Five.
+    ReadoutExact,
+    ReadoutByteShort,
+    ReadoutIntoNothing,
+    ReadoutIntoMore,
+    ReadoutIntoMost,
+    LengthOneTooLarge,
+    LengthOfGoodLowerHalf,
+    ReadoutBeforeAnyStart,
+    ReadoutAfterCycle,
+    ReadoutInFirstSession,
+    ReadoutInSecondSession,
+    ReadoutOfZeros,
+    ReadoutAllDiffer,
+    ReadoutSumDiffers,
+    ReadoutCutOff,
+    ReadoutOfAMillion,
+    ReadoutOfNineDigits,
+    ReadoutBeforeRollover,
+    ReadoutAfterRollover,
+    CommandOnLongestLine,
+    LineOneTooLong,
 }
 
-const EVENTS: [&str; 106] = [
+const EVENTS: [&str; 127] = [
     "pressure alarm came",
     "temperature alarm came",
     "K alarm came",
@@ -278,6 +304,27 @@ const EVENTS: [&str; 106] = [
     "lock missing for settings of outputs alone",
     "choice refused as out of range or of the wrong kind",
     "weight refused as out of range or of the wrong kind",
+    "readout into exactly as many bytes as the message has",
+    "readout into one byte less, refused",
+    "readout into no byte at all, refused",
+    "readout into more",
+    "readout into 200 bytes, the most that is lent",
+    "readout of a length of 201 answered ?",
+    "readout of a length above 2^32, whose lower half alone would be lent, answered ?",
+    "readout before any start",
+    "readout directly after an accepted cycle",
+    "readout while a session is open at door 1",
+    "readout while a session is open at door 2",
+    "readout of six values of 0",
+    "readout of six values of which no two are equal",
+    "readout whose VbT in litres is not the sum of Vb and VbD in litres",
+    "readout of a value that is cut off and would be rounded up",
+    "readout of a value of 1,000,000 cubic metres or more",
+    "readout of a value without a leading zero",
+    "readout directly before a rollover",
+    "readout directly after a rollover",
+    "command on a line of 500 bytes",
+    "line of 501 bytes, a command but for its length, answered ?",
 ];
 
 /// The event of a gain, by choice; an output that is off has none.
@@ -399,12 +446,14 @@ impl Coverage {
     /// answer comes with the place of its line in the script.
     pub fn answer(&mut self, script: &Script) -> Vec<(usize, Vec<u8>)> {
         let mut device = Device::new();
+        let mut last = Link::default();
         let mut answers = Vec::with_capacity(script.lines.len());
         for (place, line) in script.lines.iter().enumerate() {
             match read_line(line) {
                 Line::Nothing => self.nothing += 1,
                 Line::Malformed => {
                     self.malformed += 1;
+                    self.observe_malformed(line);
                     answers.push((place, b"?".to_vec()));
                 }
                 Line::Command(command) => {
@@ -413,6 +462,10 @@ impl Coverage {
                     let number = answer.as_ref().map_or_else(|refusal| refusal.number(), |_| 0);
                     self.answers[row_of(&command)][usize::from(number)] += 1;
                     self.observe(&command, number, &before, &device);
+                    let next = last.then(&command, number, &before, &device);
+                    self.observe_order(&last, &next);
+                    last = next;
+                    self.saw_if(line.len() == LONGEST_LINE, Event::CommandOnLongestLine);
                     let mut text = Vec::new();
                     write_answer(&answer, &mut text);
                     answers.push((place, text));
@@ -516,6 +569,7 @@ impl Coverage {
                 self.saw_if(refused && row >= FIRST_WEIGHT, Event::WeightRefused);
             }
             Command::Tick { named } => self.observe_tick(named, number, before, after),
+            Command::Readout { length } => self.observe_readout(length, number, after),
             Command::Commit { door } => {
                 if before.staged.count_ones() == 1 {
                     let row = before.staged.trailing_zeros() as usize;
@@ -648,6 +702,59 @@ impl Coverage {
             self.saw_if(emitted > 0 && emitted < named, Event::TickTookFewer);
             self.saw_if(emitted > 0 && emitted == named && new.waiting == 0, Event::TickTookLast);
             self.saw_if(emitted > 0 && after.choice(place) == OFF, Event::TickFromOff);
+        }
+    }
+
+    fn observe_readout(&mut self, length: usize, number: u8, after: &Device) {
+        if number != 0 {
+            self.saw_if(length == MESSAGE_LENGTH - 1, Event::ReadoutByteShort);
+            self.saw_if(length == 0, Event::ReadoutIntoNothing);
+            return;
+        }
+        self.saw_if(length == MESSAGE_LENGTH, Event::ReadoutExact);
+        self.saw_if(length > MESSAGE_LENGTH, Event::ReadoutIntoMore);
+        self.saw_if(length == MOST_LENT, Event::ReadoutIntoMost);
+        self.saw_if(after.sessions[0].open, Event::ReadoutInFirstSession);
+        self.saw_if(after.sessions[1].open, Event::ReadoutInSecondSession);
+        self.observe_values(&after.counters, &after.totals);
+    }
+
+    /// What a readout that was done says.
+    fn observe_values(&mut self, counters: &Counters, totals: &Totals) {
+        let values = litres(counters, totals);
+        self.saw_if(values == [0; 6], Event::ReadoutOfZeros);
+        let mut in_order = values;
+        in_order.sort_unstable();
+        self.saw_if(in_order.windows(2).all(|two| two[0] != two[1]), Event::ReadoutAllDiffer);
+        let [vb, vb_disturbed, vb_total, ..] = values;
+        let sum = (vb + vb_disturbed) % (VB_MODULUS / UNITS_A_LITRE);
+        self.saw_if(sum != vb_total, Event::ReadoutSumDiffers);
+        let amounts = [counters.vb, counters.vb_disturbed, totals.vb];
+        let upper_half = |amount: &u64| 2 * (amount % UNITS_A_LITRE) >= UNITS_A_LITRE;
+        self.saw_if(amounts.iter().any(upper_half), Event::ReadoutCutOff);
+        let largest = in_order[in_order.len() - 1];
+        self.saw_if(largest >= 1_000_000_000, Event::ReadoutOfAMillion);
+        self.saw_if(largest >= VM_MODULUS / 10, Event::ReadoutOfNineDigits);
+    }
+
+    /// Events of two commands, one directly after the other.
+    fn observe_order(&mut self, last: &Link, next: &Link) {
+        self.saw_if(last.readout && next.rolled, Event::ReadoutBeforeRollover);
+        self.saw_if(last.rolled && next.readout, Event::ReadoutAfterRollover);
+        self.saw_if(last.cycle && next.readout, Event::ReadoutAfterCycle);
+        self.saw_if(next.readout && !next.started, Event::ReadoutBeforeAnyStart);
+    }
+
+    /// Lines that are no command only because a length or the line itself is
+    /// too long.
+    fn observe_malformed(&mut self, line: &[u8]) {
+        let by_one = line.len() == LONGEST_LINE + 1;
+        self.saw_if(by_one && read_words(line).is_some(), Event::LineOneTooLong);
+        if let Some(length) = line.strip_prefix(b"readout ").and_then(unsigned) {
+            self.saw_if(length == MOST_LENT as u64 + 1, Event::LengthOneTooLarge);
+            let lower_half = length % (1 << 32);
+            let good = (MESSAGE_LENGTH as u64..=MOST_LENT as u64).contains(&lower_half);
+            self.saw_if(length >> 32 > 0 && good, Event::LengthOfGoodLowerHalf);
         }
     }
 
@@ -801,6 +908,33 @@ impl Coverage {
             let _ = writeln!(text, "Not reached: {}.", missing.join("; "));
         }
         text
+    }
+}
+
+/// What a command is to the one before it and to the one after it.
+#[derive(Clone, Copy, Default)]
+struct Link {
+    /// A start has come, this one or an earlier one.
+    started: bool,
+    /// A readout that was done.
+    readout: bool,
+    /// An accepted cycle.
+    cycle: bool,
+    /// An accepted cycle in which a counter or a total rolled over.
+    rolled: bool,
+}
+
+impl Link {
+    /// The link of the command that comes after this one.
+    fn then(&self, command: &Command, number: u8, before: &Before, after: &Device) -> Link {
+        let done = number == 0;
+        let cycle = done && matches!(command, Command::Cycle(_));
+        Link {
+            started: self.started || matches!(command, Command::Start { .. }),
+            readout: done && matches!(command, Command::Readout { .. }),
+            cycle,
+            rolled: cycle && Steps::between(before, after).0.iter().any(|step| step.rolled),
+        }
     }
 }
 
@@ -1024,40 +1158,79 @@ mod tests {
         }
     }
 
+    const SEEDS: [u64; 6] = [0, 1, 2, 3, 1_000_003, u64::MAX];
+
+    /// What random scripts reach in as many steps as one run of the gate has,
+    /// without the long script.
+    fn random_coverage(seed: u64) -> Coverage {
+        let mut rng = Rng::new(seed);
+        let mut coverage = Coverage::new();
+        while coverage.answered() < 200_000 {
+            coverage.answer(&random_script(&mut rng));
+        }
+        coverage
+    }
+
+    /// Of the events of one request, which stand together, those that were not
+    /// reached again and again.
+    fn seldom(coverage: &Coverage, first: Event, last: Event) -> Vec<&'static str> {
+        let counted = EVENTS.iter().zip(&coverage.events);
+        let of_request = counted.take(last as usize + 1).skip(first as usize);
+        of_request.filter(|(_, count)| **count < 10).map(|(name, _)| *name).collect()
+    }
+
     /// The random scripts must come to the hour at which a month begins again
     /// and again, without the long script and whatever the seed.
     #[test]
     fn random_scripts_come_to_six_often() {
-        for seed in [0, 1, 2, 3, 1_000_003, u64::MAX] {
-            let mut rng = Rng::new(seed);
-            let mut coverage = Coverage::new();
-            while coverage.answered() < 200_000 {
-                coverage.answer(&random_script(&mut rng));
-            }
-            // The events of request Two stand together.
-            for event in Event::CycleAtSix as usize..=Event::StartInFirstHours as usize {
-                let count = coverage.events[event];
-                assert!(count >= 10, "seed {seed}: {count} {}", EVENTS[event]);
-            }
+        for seed in SEEDS {
+            let seldom =
+                seldom(&random_coverage(seed), Event::CycleAtSix, Event::StartInFirstHours);
+            assert_eq!(seldom, [""; 0], "seed {seed}");
         }
     }
 
-    /// The random scripts must come to everything of the outputs again and
-    /// again, without the long script and whatever the seed.
+    /// The same of everything of the outputs. No counter in litres comes to its
+    /// rollover in a random script.
     #[test]
     fn random_scripts_come_to_the_outputs_often() {
-        for seed in [0, 1, 2, 3, 1_000_003, u64::MAX] {
-            let mut rng = Rng::new(seed);
+        for seed in SEEDS {
+            let seldom = seldom(&random_coverage(seed), Event::VmFollowed, Event::WeightRefused);
+            let never = EVENTS[Event::FollowedLitresRollover as usize];
+            assert_eq!(seldom, [never], "seed {seed}");
+        }
+    }
+
+    /// The same of the readouts and of the longest lines.
+    #[test]
+    fn random_scripts_come_to_readouts_often() {
+        for seed in SEEDS {
+            let coverage = random_coverage(seed);
+            let seldom = seldom(&coverage, Event::ReadoutExact, Event::LineOneTooLong);
+            assert_eq!(seldom, [""; 0], "seed {seed}");
+            // An answer is long, and many would slow a comparison down.
+            let row = row_of(&Command::Readout { length: 0 });
+            let readouts: u64 = coverage.answers[row].iter().sum();
+            let percent = 100 * readouts / coverage.answered();
+            assert!((1..=5).contains(&percent), "seed {seed}: {readouts} readouts");
+        }
+    }
+
+    /// The long script alone asks for a readout on either side of a rollover,
+    /// and into every length that is lent.
+    #[test]
+    fn the_long_script_reads_out_everywhere() {
+        for seed in [0, 1, u64::MAX] {
             let mut coverage = Coverage::new();
-            while coverage.answered() < 200_000 {
-                coverage.answer(&random_script(&mut rng));
-            }
-            // The events of request Three are the last.
-            for event in Event::VmFollowed as usize..EVENTS.len() {
-                let count = coverage.events[event];
-                // No counter in litres comes so far in a random script.
-                let long = event == Event::FollowedLitresRollover as usize;
-                assert!(count >= 10 || long, "seed {seed}: {count} {}", EVENTS[event]);
+            let script = long_script(&mut Rng::new(seed));
+            coverage.answer(&script);
+            let count = |event: Event| coverage.events[event as usize];
+            // VmT, VbT, Vm together with Vb, VmD; and after VbT has landed.
+            assert!(count(Event::ReadoutBeforeRollover) >= 4, "seed {seed}");
+            assert!(count(Event::ReadoutAfterRollover) >= 5, "seed {seed}");
+            for length in 0..=MOST_LENT + 1 {
+                let line = format!("readout {length}").into_bytes();
+                assert!(script.lines.contains(&line), "seed {seed}: {length}");
             }
         }
     }

@@ -7,13 +7,14 @@
 //! must be plays no part here.
 
 use crate::calendar::{first_midnight, first_second, month_of_time, SIX_O_CLOCK};
-use crate::command::{obey, Command};
+use crate::command::{obey, Command, MOST_LENT};
 use crate::device::{
     temperature_float, Cycle, Device, Value, ARCHIVE_LINES, AUDIT_LINES, EQ1, FIRST_WEIGHT,
-    LOG_LINES, N_LIMIT, PULSE, SETTINGS, TIME_LIMIT, VB_MODULUS, VM_MODULUS,
+    LOG_LINES, N_LIMIT, PULSE, SETTINGS, TIME_LIMIT, UNITS_A_LITRE, VB_MODULUS, VM_MODULUS,
 };
 use crate::lines::{read_line, write_command, Line, LONGEST_LINE};
 use crate::output::{Output, BUFFER, OFF, OUTPUTS, TICK_LIMIT};
+use crate::readout::MESSAGE_LENGTH;
 use crate::script::Script;
 use crate::table::{Pair, Range, PAGE};
 
@@ -65,6 +66,9 @@ pub fn random_script(rng: &mut Rng) -> Script {
     let length = 300 + rng.below(5_000) as usize;
     let mut writer = Writer::new(rng);
     // Without a start the device must be as start time 0 and codes 0 give.
+    if writer.rng.percent(30) {
+        writer.readout();
+    }
     if writer.rng.percent(80) {
         writer.start();
     }
@@ -122,9 +126,10 @@ pub fn giant_script(rng: &mut Rng) -> Script {
 }
 
 /// One long script for what no random one reaches: Vm, VmD, Vb, VmT and VbT
-/// roll over, the totals also where neither part does, the line numbers of
-/// both books pass 65,535, and every month of the century begins. No number of
-/// pulses and no reading hangs on the seed, so every seed reaches all of this.
+/// roll over, the totals also where neither part does, with a readout on either
+/// side; the line numbers of both books pass 65,535, a readout goes into every
+/// length, and every month of the century begins. No number of pulses and no
+/// reading hangs on the seed, so every seed reaches all of this.
 pub fn long_script(rng: &mut Rng) -> Script {
     let mut writer = Writer::new(rng);
     writer.no_noise = true;
@@ -157,7 +162,11 @@ pub fn long_script(rng: &mut Rng) -> Script {
             p: (!disturbed).then_some(101_325),
             k: (!disturbed).then_some(10_000),
         }));
-        if round % 64 == 0 || writer.near_rollover() {
+        let near = writer.near_rollover();
+        if near {
+            writer.good_readout();
+        }
+        if round % 64 == 0 || near {
             writer.say(Command::Report);
             writer.say(Command::Outputs);
         }
@@ -168,8 +177,13 @@ pub fn long_script(rng: &mut Rng) -> Script {
             let index = writer.rng.below(4);
             writer.say(Command::Log { index });
         }
+        // The last before the next cycle, which may roll a counter over.
+        if round % 64 == 0 || near {
+            writer.good_readout();
+        }
     }
     writer.dump();
+    writer.every_length();
     // All 29 settings at every commit, at either door in turn.
     for round in 0..2_290_u64 {
         let door = 1 + round % 2;
@@ -360,6 +374,9 @@ impl<'a> Writer<'a> {
         if self.rng.percent(50) {
             self.say(Command::Outputs);
         }
+        if self.rng.percent(30) {
+            self.readout();
+        }
     }
 
     // ---- stretches ----
@@ -367,7 +384,8 @@ impl<'a> Writer<'a> {
     fn everyday(&mut self) {
         match self.rng.below(100) {
             0..=39 => self.everyday_cycle(),
-            40..=49 => self.say(Command::Report),
+            40..=47 => self.say(Command::Report),
+            48 | 49 => self.readout(),
             50..=59 => self.look(),
             60..=79 => self.everyday_session(),
             80..=85 => {
@@ -397,6 +415,9 @@ impl<'a> Writer<'a> {
         }
         while self.lines.len() < until {
             self.odd_cycle();
+            if self.rng.percent(8) {
+                self.readout();
+            }
             if self.rng.percent(25) {
                 self.say(Command::Report);
             }
@@ -434,7 +455,8 @@ impl<'a> Writer<'a> {
                 continue;
             }
             match self.rng.below(100) {
-                0..=33 => self.say(Command::Read { door, setting: setting as u64 }),
+                0..=30 => self.say(Command::Read { door, setting: setting as u64 }),
+                31..=33 => self.readout(),
                 34..=61 => {
                     let value = if self.rng.percent(90) {
                         self.good_value(setting)
@@ -503,6 +525,9 @@ impl<'a> Writer<'a> {
             if self.rng.percent(10) {
                 self.odd_cycle();
             }
+            if self.rng.percent(6) {
+                self.readout();
+            }
         }
     }
 
@@ -529,6 +554,9 @@ impl<'a> Writer<'a> {
                 _ => now + self.rng.below(90_000),
             };
             self.cycle_at(time);
+            if self.rng.percent(4) {
+                self.readout();
+            }
             if self.rng.percent(40) {
                 let index = self.index(self.model.archive.held, ARCHIVE_LINES);
                 self.say(Command::Archive { index });
@@ -661,6 +689,9 @@ impl<'a> Writer<'a> {
                 cycle.raw = Some(raw.unwrap_or_else(|| self.raw()));
                 cycle.n = 1 + self.rng.below(N_LIMIT);
                 self.say(Command::Cycle(cycle));
+                if self.rng.percent(10) {
+                    self.readout();
+                }
                 self.say(Command::Report);
             }
         }
@@ -694,6 +725,11 @@ impl<'a> Writer<'a> {
         }
         for _ in 0..20 + self.rng.below(90) {
             self.pressure_cycle(N_LIMIT, |_| measured.then_some(highest(8) as u64));
+            if self.near_base_rollover() {
+                self.good_readout();
+            } else if self.rng.percent(8) {
+                self.readout();
+            }
             if self.rng.percent(30) {
                 self.say(Command::Report);
             }
@@ -725,7 +761,8 @@ impl<'a> Writer<'a> {
                 50..=56 => self.fill_a_buffer(),
                 57..=62 => self.everyday_cycle(),
                 63..=76 => self.tick(),
-                77..=90 => self.say(Command::Outputs),
+                77..=88 => self.say(Command::Outputs),
+                89 | 90 => self.readout(),
                 91..=93 => {
                     let index = self.rng.below(6);
                     self.say(Command::Log { index });
@@ -789,6 +826,7 @@ impl<'a> Writer<'a> {
             let n = N_LIMIT.min(left);
             left -= n;
             self.pressure_cycle(n, |_| (!disturbed).then_some(10_000_000));
+            self.good_readout();
             self.say(Command::Report);
             self.say(Command::Outputs);
             disturbed = !disturbed;
@@ -815,6 +853,9 @@ impl<'a> Writer<'a> {
         );
         for _ in 0..5 + self.rng.below(20) {
             self.pressure_cycle(1, |rng| Some(rng.between(lowest(7), 200_000) as u64));
+            if self.rng.percent(15) {
+                self.readout();
+            }
             self.say(Command::Report);
         }
         self.back_to_factory(2, &[2, 5, 7, 8, 15, 16]);
@@ -822,9 +863,13 @@ impl<'a> Writer<'a> {
 
     /// Any command with any arguments.
     fn anything(&mut self) {
-        let command = match self.rng.below(132) {
+        let command = match self.rng.below(137) {
             0 => {
                 self.start();
+                return;
+            }
+            132..=136 => {
+                self.readout();
                 return;
             }
             120..=127 => {
@@ -893,11 +938,17 @@ impl<'a> Writer<'a> {
         let code2 = self.code();
         let code3 = if self.rng.one_in(4) { code2 } else { self.code() };
         self.say(Command::Start { time, code2, code3 });
+        if self.rng.percent(10) {
+            self.readout();
+        }
     }
 
     fn everyday_cycle(&mut self) {
         let cycle = if self.rng.percent(80) { self.good_cycle() } else { self.edge_cycle() };
         self.say(Command::Cycle(cycle));
+        if self.rng.percent(3) {
+            self.readout();
+        }
     }
 
     fn cycle_at(&mut self, time: u64) {
@@ -927,6 +978,9 @@ impl<'a> Writer<'a> {
         for _ in 0..self.rng.below(4) {
             let setting = 1 + self.rng.below(SETTINGS as u64);
             self.read_or_write(door, setting);
+            if self.rng.percent(4) {
+                self.readout();
+            }
         }
         match self.rng.below(10) {
             0 => {}
@@ -1164,6 +1218,52 @@ impl<'a> Writer<'a> {
         self.say(Command::Tick { named });
     }
 
+    /// A readout: mostly into a buffer that just holds the message or just
+    /// misses it, now and then of a length that is not lent.
+    fn readout(&mut self) {
+        let (message, most) = (MESSAGE_LENGTH as u64, MOST_LENT as u64);
+        let enough = message + self.rng.below(most - message + 1);
+        let length = match self.rng.below(40) {
+            0 => 0,
+            1 => 1,
+            2..=4 => message - 1,
+            5..=14 => message,
+            15..=17 => message + 1,
+            18 => most - 1,
+            19..=23 => most,
+            24 | 25 => most + 1,
+            // Good when only its lower bits are looked at.
+            26 => enough + self.rng.pick(&[1 << 8, 1 << 16, 1 << 32, 1 << 32, 1 << 63]),
+            27 => self.rng.pick(&[255, 256, 1_000, 65_535, 1 << 32, u64::MAX]),
+            28..=31 => self.rng.below(message),
+            _ => enough,
+        };
+        self.readout_into(length);
+    }
+
+    /// A readout that is done.
+    fn good_readout(&mut self) {
+        let lengths = [MESSAGE_LENGTH, MESSAGE_LENGTH, MESSAGE_LENGTH + 1, MOST_LENT];
+        let length = self.rng.pick(&lengths);
+        self.say(Command::Readout { length });
+    }
+
+    /// Every length that is lent, and one more.
+    fn every_length(&mut self) {
+        for length in 0..=MOST_LENT as u64 + 1 {
+            self.readout_into(length);
+        }
+    }
+
+    /// A readout into any length. One that is not lent makes no command.
+    fn readout_into(&mut self, length: u64) {
+        if length <= MOST_LENT as u64 {
+            self.say(Command::Readout { length: length as usize });
+        } else {
+            self.push(format!("readout {length}").into_bytes());
+        }
+    }
+
     /// Begins afresh at a door and puts values in force there, if the locks
     /// that stand open allow it.
     fn put_in_force(&mut self, door: u64, values: &[(usize, Value)]) {
@@ -1197,6 +1297,7 @@ impl<'a> Writer<'a> {
     fn dump(&mut self) {
         self.say(Command::Report);
         self.say(Command::Outputs);
+        self.good_readout();
         self.whole_archive();
         for index in 0..=LOG_LINES as u64 {
             self.say(Command::Log { index });
@@ -1218,6 +1319,7 @@ impl<'a> Writer<'a> {
     fn glance(&mut self) {
         self.say(Command::Report);
         self.say(Command::Outputs);
+        self.readout();
         for _ in 0..6 {
             self.look();
         }
@@ -1431,7 +1533,7 @@ impl<'a> Writer<'a> {
     }
 
     /// Whether a counter or a total is within two large cycles of a rollover,
-    /// at a factor of about 1. The totals are seen in a report alone.
+    /// at a factor of about 1. They are seen in a report and a readout.
     fn near_rollover(&self) -> bool {
         let (counters, totals) = (&self.model.counters, &self.model.totals);
         let step = 120_000_000;
@@ -1439,7 +1541,20 @@ impl<'a> Writer<'a> {
         near(counters.vm, step, VM_MODULUS)
             || near(counters.vm_disturbed, step, VM_MODULUS)
             || near(totals.vm, step, VM_MODULUS)
-            || near(totals.vb, 100_000 * step, VB_MODULUS)
+            || near(totals.vb, UNITS_A_LITRE * step, VB_MODULUS)
+    }
+
+    /// Whether the largest amount there is would roll Vb, VbD or VbT over, or
+    /// has just done so.
+    fn near_base_rollover(&self) -> bool {
+        let (counters, totals) = (&self.model.counters, &self.model.totals);
+        // A little more than that amount.
+        let step = VB_MODULUS / 40;
+        let before = |sum: u64| sum + step >= VB_MODULUS;
+        before(counters.vb)
+            || before(counters.vb_disturbed)
+            || before(totals.vb)
+            || totals.vb < step
     }
 
     /// A value that the setting takes.
@@ -1653,7 +1768,7 @@ impl<'a> Writer<'a> {
             3 => b"# report".to_vec(),
             _ => {
                 let mut line = vec![b'#'];
-                for _ in 0..self.rng.below(400) {
+                for _ in 0..self.rng.below(2 * LONGEST_LINE as u64) {
                     line.push(self.byte());
                 }
                 line
@@ -1672,7 +1787,7 @@ impl<'a> Writer<'a> {
     }
 
     fn random_line(&mut self) {
-        let most = self.rng.pick(&[4, 30, 300]);
+        let most = self.rng.pick(&[4, 30, LONGEST_LINE as u64 + 100]);
         let length = self.rng.below(most);
         let line = (0..length).map(|_| self.byte()).collect();
         self.push(line);
@@ -1680,7 +1795,7 @@ impl<'a> Writer<'a> {
 
     /// Random letters of those that commands are made of.
     fn alphabet_line(&mut self) {
-        const WORDS: [&str; 38] = [
+        const WORDS: [&str; 43] = [
             "start",
             "cycle",
             "begin",
@@ -1694,6 +1809,7 @@ impl<'a> Writer<'a> {
             "tick",
             "report",
             "outputs",
+            "readout",
             "archive",
             "log",
             "audit",
@@ -1710,6 +1826,10 @@ impl<'a> Writer<'a> {
             "22",
             "29",
             "30",
+            "155",
+            "156",
+            "200",
+            "201",
             "600",
             "601",
             "65535",
@@ -1756,8 +1876,14 @@ impl<'a> Writer<'a> {
             let zeros = if self.rng.percent(80) {
                 1 + self.rng.below(4)
             } else {
-                // About as many as the longest line takes, or too many.
-                (LONGEST_LINE - line.len()) as u64 - 1 + self.rng.below(3)
+                // About as many as the longest line takes, or too many; or any
+                // number up to that.
+                let room = (LONGEST_LINE - line.len()) as u64;
+                if self.rng.percent(50) {
+                    room - 1 + self.rng.below(3)
+                } else {
+                    self.rng.below(room)
+                }
             };
             for _ in 0..zeros {
                 word.insert(digits, b'0');
@@ -1771,7 +1897,7 @@ impl<'a> Writer<'a> {
     /// A good command's line, to be spoiled.
     fn well_formed(&mut self) -> Vec<u8> {
         let time = self.model.time;
-        let command = match self.rng.below(16) {
+        let command = match self.rng.below(17) {
             0 => Command::Start { time, code2: self.code(), code3: self.code() },
             1..=3 => Command::Cycle(self.edge_cycle()),
             4 => Command::Begin { door: self.door() },
@@ -1788,6 +1914,7 @@ impl<'a> Writer<'a> {
             12 => Command::Archive { index: self.rng.below(16) },
             13 => Command::Tick { named: self.rng.below(TICK_LIMIT + 2) },
             14 => Command::Outputs,
+            15 => Command::Readout { length: self.rng.below(MOST_LENT as u64 + 2) as usize },
             _ => self.rng.pick(&[Command::Log { index: 0 }, Command::Audit { index: 3 }]),
         };
         let mut line = Vec::new();
@@ -1852,6 +1979,7 @@ impl<'a> Writer<'a> {
                     .rng
                     .pick(&[
                         "Start", "cycles", "cycl", "beginn", "?", "help", "0", "ticks", "output",
+                        "readouts",
                     ])
                     .into();
                 words.join(&b' ')
@@ -1921,7 +2049,7 @@ impl<'a> Writer<'a> {
                 let kind = self.rng.pick(&["W", "C", "x", "wc", "-", "0", "w w"]);
                 format!("write 1 16 {kind} 10000").into()
             }
-            21 => (0..1 + self.rng.below(300)).map(|_| b' ').collect(),
+            21 => vec![b' '; 1 + self.rng.below(LONGEST_LINE as u64 + 100) as usize],
             22 => {
                 // Around the longest line there is.
                 let mut line = b"report".to_vec();

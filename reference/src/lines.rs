@@ -3,12 +3,12 @@
 //! A line is bytes, not characters: anything may be on it, and what is not a
 //! command answers `?`.
 
-use crate::command::{obey, Answer, Command, Done};
+use crate::command::{obey, Answer, Command, Done, MOST_LENT};
 use crate::device::{Counters, Cycle, Device, Value};
 
 /// A longer line is not a command, whatever is on it, so that a reader needs
 /// no more than this much room. See the README.
-pub const LONGEST_LINE: usize = 200;
+pub const LONGEST_LINE: usize = 500;
 
 /// The most words of a command: those of `cycle`.
 const MOST_WORDS: usize = 6;
@@ -37,6 +37,11 @@ fn read_command(line: &[u8]) -> Option<Command> {
     if line.len() > LONGEST_LINE {
         return None;
     }
+    read_words(line)
+}
+
+/// The command that the words of a line make, however long it is.
+pub(crate) fn read_words(line: &[u8]) -> Option<Command> {
     let mut words: [&[u8]; MOST_WORDS] = [b""; MOST_WORDS];
     let mut count = 0;
     for word in line.split(|byte| *byte == b' ') {
@@ -79,6 +84,7 @@ fn read_command(line: &[u8]) -> Option<Command> {
         [b"tick", named] => Some(Command::Tick { named: unsigned(named)? }),
         [b"report"] => Some(Command::Report),
         [b"outputs"] => Some(Command::Outputs),
+        [b"readout", length] => Some(Command::Readout { length: lent_length(length)? }),
         [b"archive", index] => Some(Command::Archive { index: unsigned(index)? }),
         [b"log", index] => Some(Command::Log { index: unsigned(index)? }),
         [b"audit", index] => Some(Command::Audit { index: unsigned(index)? }),
@@ -88,7 +94,7 @@ fn read_command(line: &[u8]) -> Option<Command> {
 
 /// Digits and nothing else, of a number that fits. Leading zeros change
 /// nothing.
-fn unsigned(word: &[u8]) -> Option<u64> {
+pub(crate) fn unsigned(word: &[u8]) -> Option<u64> {
     if word.is_empty() {
         return None;
     }
@@ -100,6 +106,12 @@ fn unsigned(word: &[u8]) -> Option<u64> {
         number = number.checked_mul(10)?.checked_add(u64::from(byte - b'0'))?;
     }
     Some(number)
+}
+
+/// The length of a buffer, if one so long is lent.
+fn lent_length(word: &[u8]) -> Option<usize> {
+    let length = usize::try_from(unsigned(word)?).ok()?;
+    (length <= MOST_LENT).then_some(length)
 }
 
 fn code(word: &[u8]) -> Option<u32> {
@@ -182,6 +194,9 @@ pub fn write_command(command: &Command, out: &mut Vec<u8>) {
         Command::Outputs => {
             words.text("outputs");
         }
+        Command::Readout { length } => {
+            words.text("readout").number(length as u64);
+        }
         Command::Archive { index } => {
             words.text("archive").number(index);
         }
@@ -224,6 +239,9 @@ pub fn write_answer(answer: &Answer, out: &mut Vec<u8>) {
             for output in outputs {
                 words.number(output.account).number(output.waiting).number(output.lost);
             }
+        }
+        Done::Readout(ref buffer) => {
+            words.bytes(buffer);
         }
         Done::Archive(line) => {
             words.number(line.month.into()).counters(line.counters);
@@ -287,12 +305,18 @@ impl<'a> Words<'a> {
                 push_decimal(self.out, number.unsigned_abs());
             }
             Value::Coefficient(float) => {
-                self.text("c");
-                self.space();
-                let bits = float.to_bits();
-                for place in (0..16).rev() {
-                    self.out.push(b"0123456789abcdef"[(bits >> (4 * place) & 15) as usize]);
-                }
+                self.text("c").bytes(&float.to_bits().to_be_bytes());
+            }
+        }
+        self
+    }
+
+    /// Bytes as one word, two digits a byte.
+    fn bytes(&mut self, bytes: &[u8]) -> &mut Self {
+        self.space();
+        for byte in bytes {
+            for digit in [byte >> 4, byte & 15] {
+                self.out.push(b"0123456789abcdef"[usize::from(digit)]);
             }
         }
         self

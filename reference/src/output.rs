@@ -5,6 +5,8 @@
 //! buffer until a tick takes them; what finds no room there is lost and
 //! counted.
 
+use crate::device::UNITS_A_LITRE;
+
 /// How many outputs there are.
 pub const OUTPUTS: usize = 4;
 /// The most pulses that wait at an output.
@@ -19,8 +21,6 @@ pub const CHOICES: usize = 7;
 /// The choice of an output that follows nothing.
 pub const OFF: usize = 0;
 
-/// Hundred-thousandths of a litre, the unit of Vb, VbD and VbT.
-const UNITS_A_LITRE: u64 = 100_000;
 /// How many units of its counter a litre is, by choice. Nothing is counted
 /// where the choice is off, in whatever unit.
 const UNITS: [u64; CHOICES] = [1, 1, 1, 1, UNITS_A_LITRE, UNITS_A_LITRE, UNITS_A_LITRE];

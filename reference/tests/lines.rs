@@ -13,6 +13,13 @@ fn is_command(line: &[u8]) -> bool {
     matches!(read_line(line), Line::Command(_))
 }
 
+/// A command with as many leading zeros as it takes.
+fn long_line(length: usize) -> Vec<u8> {
+    let mut line = b"log ".to_vec();
+    line.resize(length, b'0');
+    line
+}
+
 #[test]
 fn every_command_is_read() {
     let cycle = |raw, p, k| Command::Cycle(Cycle { time: 1, n: 2, raw, p, k });
@@ -43,6 +50,9 @@ fn every_command_is_read() {
         ("tick 18446744073709551615", Command::Tick { named: u64::MAX }),
         ("report", Command::Report),
         ("outputs", Command::Outputs),
+        ("readout 0", Command::Readout { length: 0 }),
+        ("readout 156", Command::Readout { length: 156 }),
+        ("readout 200", Command::Readout { length: 200 }),
         ("archive 4", Command::Archive { index: 4 }),
         ("log 18446744073709551615", Command::Log { index: u64::MAX }),
         ("audit 0", Command::Audit { index: 0 }),
@@ -116,6 +126,28 @@ fn nothing_and_malformed() {
         b"outputs ",
         b"output",
         b"Outputs",
+        b"readout",
+        b"readout ",
+        b"readout -",
+        b"readout -1",
+        b"readout -0",
+        b"readout +156",
+        b"readout 201",
+        b"readout 256",
+        // 256 and 156, 65,536 and 156, 2^32 and 156.
+        b"readout 412",
+        b"readout 65692",
+        b"readout 4294967452",
+        b"readout 18446744073709551615",
+        b"readout 18446744073709551616",
+        b"readout 156 1",
+        b"readout  156",
+        b"readout 156 ",
+        b"readout 15.6",
+        b"readout 0x9c",
+        b"readout156",
+        b"Readout 156",
+        b"readouts 156",
         b"write 1 2 3",
         b"write 1 2 w",
         b"write 1 2 w ",
@@ -142,6 +174,8 @@ fn open_points() {
     // Leading zeros change nothing, and minus nought is nought.
     assert_eq!(read_line(b"log 007"), read_line(b"log 7"));
     assert_eq!(read_line(b"tick 0600"), read_line(b"tick 600"));
+    assert_eq!(read_line(b"readout 000200"), read_line(b"readout 200"));
+    assert_eq!(read_line(b"readout 000201"), Line::Malformed);
     assert_eq!(read_line(b"cycle 0 0 00065535 - -"), read_line(b"cycle 0 0 65535 - -"));
     assert_eq!(read_line(b"write 1 2 w -0"), read_line(b"write 1 2 w 0"));
     assert_eq!(read_line(b"write 1 2 w -003"), read_line(b"write 1 2 w -3"));
@@ -149,14 +183,11 @@ fn open_points() {
         read_line(b"log 000000000000000000000000018446744073709551615"),
         Line::Command(Command::Log { index: u64::MAX })
     );
-    // A line of 200 bytes is the longest.
-    let long = |length: usize| {
-        let mut line = b"log ".to_vec();
-        line.resize(length, b'0');
-        line
-    };
-    assert!(is_command(&long(200)));
-    assert_eq!(read_line(&long(201)), Line::Malformed);
+    // A line of 500 bytes is the longest.
+    for length in [200, 201, 499, 500] {
+        assert!(is_command(&long_line(length)), "{length}");
+    }
+    assert_eq!(read_line(&long_line(501)), Line::Malformed);
     let remark = [b'#'; 5_000];
     assert_eq!(read_line(&remark), Line::Nothing);
 }
@@ -176,6 +207,26 @@ fn a_last_line_without_line_feed() {
     assert_eq!(answers(b"log 0\n"), "13\n");
     assert_eq!(answers(b"log 0\n\nbegin 1\nx"), "13\n0\n?\n");
     assert_eq!(answers(b"log 0\r\n"), "?\n");
+}
+
+/// The longest line in a stream, one that is too long, and one that is far too
+/// long, byte by byte and at once. The line after it is answered as ever.
+#[test]
+fn the_longest_line_of_a_stream() {
+    for (length, answers) in
+        [(499, "13\n0\n"), (500, "13\n0\n"), (501, "?\n0\n"), (502, "?\n0\n"), (5_000, "?\n0\n")]
+    {
+        let input = [long_line(length), b"\nbegin 1\n".to_vec()].concat();
+        for size in [1, input.len()] {
+            let mut answerer = Answerer::new();
+            let mut out = Vec::new();
+            for piece in input.chunks(size) {
+                answerer.take(piece, &mut out);
+            }
+            answerer.end(&mut out);
+            assert_eq!(String::from_utf8(out).unwrap(), answers, "{length}");
+        }
+    }
 }
 
 /// The pieces in which the bytes come do not matter.

@@ -88,6 +88,19 @@ fn a_wrong_answer_is_found_and_cut_down() {
     assert!(story.last().unwrap().contains("the bench: 0"), "{out}");
 }
 
+/// A bench that writes past its message, by one bit at the end of the buffer.
+/// The answer that differs is shown to its last digit.
+#[test]
+fn a_readout_past_its_message_is_found() {
+    let empty = PathBuf::from(env!("CARGO_TARGET_TMPDIR")).join("no-cases-of-readouts");
+    fs::create_dir_all(&empty).unwrap();
+    let arguments = ["--cases", empty.to_str().unwrap(), "--no-long"];
+    let out = finds("past-the-message", "ANSWER | sed -u 's/^\\(0 02.*\\)aa$/\\1ab/'", &arguments);
+    assert!(out.contains("the shortest script found, 1 lines"), "{out}");
+    let last = out.lines().last().expect("the bench's answer");
+    assert!(last.contains("the bench: 0 02") && last.ends_with("ab"), "{out}");
+}
+
 /// What the walk over the settings page finds of a bench, without a case and
 /// without a random step.
 #[track_caller]

@@ -354,6 +354,15 @@ fn tick() {
 }
 
 #[test]
+fn readout() {
+    for length in ["0", "1", "100", "155", "0000155"] {
+        tell(&[(&format!("readout {length}"), "16")]);
+    }
+    // No session, door, lock or setting has a say in it.
+    tell(&[("begin 1", "0"), ("begin 2", "0"), ("open 1 0", "0"), ("readout 155", "16")]);
+}
+
+#[test]
 fn books() {
     for book in ["archive", "log", "audit"] {
         for index in ["0", "1", "14", "15", "199", "200", "249", "250", "18446744073709551615"] {
@@ -393,6 +402,8 @@ fn a_refusal_changes_nothing() {
         ("open 7 0", "3"),
         ("shut 7", "3"),
         ("tick 601", "15"),
+        ("readout 155", "16"),
+        ("readout 201", "?"),
         ("archive 99", "13"),
         ("log 999", "13"),
         ("audit 999", "13"),

@@ -16,6 +16,7 @@ use state::faults::NOT_HELD;
 use state::faults::NOT_WHOLE;
 use state::faults::PAIR_CROSSED;
 use state::faults::SESSION_OPEN;
+use state::faults::SHORT_BUFFER;
 use state::faults::STALE;
 use state::faults::TIME_BACK;
 use state::faults::TIME_PAST_END;
@@ -147,8 +148,8 @@ fn of_the_settings() {
     );
 }
 
-// A line asked for; a row that is on the card though no whole state can come to it; a tick.
-fn the_last_three() {
+// A line asked for; a row that is on the card though no whole state can come to it; a tick; a readout.
+fn the_last_four() {
     sized(
         NOT_HELD,
         b"The line asked for is not held (at most ",
@@ -169,17 +170,24 @@ fn the_last_three() {
         b" pulses",
         b"Nothing was taken. The boiler house's reader asks for too much: let it ask for no more than that at a time, and more often",
     );
+    limit(
+        SHORT_BUFFER,
+        b"A readout into a buffer of less than ",
+        message::SIZE as u64,
+        b" bytes",
+        b"Nothing was written. The program that reads over the optical head lends too little: let it lend that much, and read out again",
+    );
 }
 
 pub fn run() {
     text(b"## Numbers 0 to ");
-    number(LONG_TICK);
+    number(SHORT_BUFFER);
     text(b"\n\n");
     text(b"| No. | Given when | What to do |\n|--:|---|---|\n");
     of_the_call();
     of_the_cycle();
     of_the_settings();
-    the_last_three();
+    the_last_four();
     text(
         b"\nWhere several apply, 1 comes first, then 3, then 2 or 4, then the rest in rising number. A refusal gives no value and changes\n",
     );

@@ -1,9 +1,10 @@
-// Prints docs/FAULT-CARD.md: the numbers that the device answers, its archive, its pulse outputs and its settings. Limits, sizes, and the rows of settings, pairs and locks are the device's own. So a change
+// Prints docs/FAULT-CARD.md: the numbers that the device answers, its archive, its pulse outputs, its readout and its settings. Limits, sizes, and the rows of settings, pairs and locks are the device's own. So a change
 // of the device changes what is printed, and the gate refuses the committed page.
 mod archive;
 mod faults;
 mod page;
 mod pulses;
+mod readout;
 mod table;
 
 use print::text;
@@ -18,6 +19,8 @@ fn main() {
     archive::run();
     text(b"\n");
     pulses::run();
+    text(b"\n");
+    readout::run();
     text(b"\n");
     table::run();
 }

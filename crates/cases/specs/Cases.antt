@@ -4,11 +4,15 @@
 use mathlib.Core.Bool.{Bool, true, false, not, _&&_}
 use mathlib.Core.List.{List, [], _∷_, _++_, map}
 use Prim.Native.Nat.{ℕ, _+_}
+use Prim.Native.String.{String}
 use lib.Dec.{eqb}
 use lib.IntN.{ℤ, pos, negsuc, negℤ}
 use lib.Ieee.{Float, nan, inf, fin, binary64, ofBits}
 use lib.ListN.{replicate, set}
 use Rattle.order.specs.Order.{run}
+use Rattle.spelling.specs.Spelling.{bytes}
+use Rattle.message.specs.declared.Values.{Values}
+use Rattle.message.specs.Message.{check}
 use Rattle.units.specs.Units.{litresOf, baseOf}
 use Rattle.settings.specs.declared.Setting.{Setting}
 use Rattle.settings.specs.Settings.{factorySettings, cp, pMax, firstChoice, firstWeight}
@@ -38,11 +42,12 @@ use Rattle.state.specs.declared.Core.{Core}
 use Rattle.state.specs.declared.State.{State}
 use Rattle.state.specs.State.{nothingCounted, fresh, withCore}
 use Rattle.cycle.specs.Cycle.{coefficientsIn}
-use Rattle.panel.specs.Panel.{reported}
+use Rattle.panel.specs.Panel.{reported, readoutLeaves}
 use Rattle.commands.specs.declared.Question.the-variants as question
 use Rattle.runs.specs.Run.{Step, Cycle, Turn, Open, Shut, Clear, Tick, Ask, Call, Commit, Begin, Read, Write, Abandon, World, Reply, numberOf, corrector}
 use Rattle.runs.specs.InForce.{settingOf}
 use Rattle.runs.specs.Outputs.{emittedBy}
+use Rattle.runs.specs.Readouts.{readoutsBy}
 
 -- ---- what a row can ask
 
@@ -69,6 +74,12 @@ pub data Case : Type 0 where
   outputsCase : State → List Step → List ℕ → List ℕ → Case
   -- or all that the ticks of the run emitted, four numbers a tick
   emittedCase : State → List Step → List ℕ → List ℕ → Case
+  -- or the values that the readouts of the run gave, six a readout: Vb, VbD, VbT, Vm, VmD, VmT in litres
+  readoutCase : State → List Step → List ℕ → List ℕ → Case
+  -- or what a readout after the last step makes of a lent buffer: the buffer before, and after
+  bufferCase : State → List Step → List ℕ → List ℕ → List ℕ → Case
+  -- the check character of six values in litres, and the answer
+  checkCase : Values → ℕ → Case
 
 -- H2 is `H 2` (H8 has the times that document 02, Two, gave it); a case of document 02's One is `Request 1`
 pub data Source : Type 0 where
@@ -147,6 +158,13 @@ unfoldable pub allEmitted : List Reply → List ℕ
 allEmitted [] = []
 allEmitted (a ∷ rest) = emittedBy (a .given) ++ allEmitted rest
 
+unfoldable pub sixLitres : Values → List ℕ
+sixLitres v = v .vb ∷ v .vbd ∷ v .vbt ∷ v .vm ∷ v .vmd ∷ v .vmt ∷ []
+
+unfoldable pub allRead : List Reply → List ℕ
+allRead [] = []
+allRead (a ∷ rest) = readoutsBy sixLitres (a .given) ++ allRead rest
+
 -- a run: the numbers of its answers, and the test of what is seen at the end
 unfoldable pub ranTo : State → List Step → List ℕ → (World → Bool) → Bool
 ranTo s steps numbers seen =
@@ -164,6 +182,9 @@ holds (monthsCase s steps numbers months) = ranTo s steps numbers (λ w. sameNum
 holds (codesCase s steps numbers codes) = ranTo s steps numbers (λ w. sameNumbers (codesHeld w) codes)
 holds (outputsCase s steps numbers shown) = ranTo s steps numbers (λ w. sameNumbers (outputsShown w) shown)
 holds (emittedCase s steps numbers emitted) = ranTo s steps numbers (λ w. sameNumbers (allEmitted ((run corrector steps (blank s)) .0)) emitted)
+holds (readoutCase s steps numbers values) = ranTo s steps numbers (λ w. sameNumbers (allRead ((run corrector steps (blank s)) .0)) values)
+holds (bufferCase s steps numbers before after) = ranTo s steps numbers (λ w. sameNumbers (readoutLeaves (w .state) before) after)
+holds (checkCase v answer) = eqb (check v) answer
 holds (archiveCase s steps numbers lines) = ranTo s steps numbers (λ w. sameNumbers (fiveOfEach (archiveHeld w)) lines)
 
 unfoldable pub allHold : List Row → Bool
@@ -241,19 +262,45 @@ putAlone setting v = Call 1 Begin ∷ Call 1 (Write setting (Whole (pos v))) ∷
 abbrev pub aCycle : ℕ → ℕ → ℕ → Step
 aCycle time n p = Cycle (record { time = time; n = n; raw = Raw 7680; pressure = Pascals p; k = NotComputed })
 
+-- six values in litres: Vb, VbD, VbT, Vm, VmD, VmT
+abbrev pub litres : ℕ → ℕ → ℕ → ℕ → ℕ → ℕ → Values
+litres vb vbd vbt vm vmd vmt = record { vb = vb; vbd = vbd; vbt = vbt; vm = vm; vmd = vmd; vmt = vmt }
+
+-- a device that has counted: one cycle on the main side, and one disturbed
+abbrev pub bothSides : List Step
+bothSides = aCycle 60 10 202650 ∷ aCycle 120 10 89999 ∷ []
+
+-- a line of a message, as it is printed, with its CR LF
+abbrev pub printed : String → List ℕ
+printed s = bytes s ++ (13 ∷ 10 ∷ [])
+
+-- the message of that device, byte by byte: STX, the lines, ETX, and the check character, which is `/`
+unfoldable pub itsMessage : List ℕ
+itsMessage =
+    (2 ∷ [])
+    ++ printed "2:300(000000001.863*m3)"
+    ++ printed "2:301(000000000.931*m3)"
+    ++ printed "2:302(000000002.795*m3)"
+    ++ printed "4:300(000000001.000*m3)"
+    ++ printed "4:301(000000001.000*m3)"
+    ++ printed "4:302(000000002.000*m3)"
+    ++ printed "!"
+    ++ (3 ∷ [])
+    ++ bytes "/"
+
 -- one command of each kind
 abbrev pub oneOfEach : List Step
 oneOfEach =
     aCycle 60 1 202650
     ∷ Turn (Open 1 0) ∷ Turn (Shut 1) ∷ Clear ∷ Tick 601
-    ∷ Ask question.Report ∷ Ask question.Outputs ∷ Ask (question.Archive 0) ∷ Ask (question.Log 0) ∷ Ask (question.Audit 0)
+    ∷ Ask question.Report ∷ Ask question.Outputs ∷ Ask (question.Readout 156) ∷ Ask (question.Readout 155) ∷ Ask (question.Archive 0) ∷ Ask (question.Log 0) ∷ Ask (question.Audit 0)
     ∷ Call 1 Begin ∷ Call 1 (Read 1) ∷ Call 1 (Write 1 (Whole (pos 1))) ∷ Call 1 Abandon
     ∷ Commit 1
     ∷ []
 
 -- each of them is refused with 1
 abbrev pub oneEach : List ℕ
-oneEach = replicate 15 1
+oneEach = replicate 17 1
 
 -- ---- the table
 
@@ -414,4 +461,36 @@ table =
     ∷ row (Request 4) (runCase factoryDevice
     (Call 2 Begin ∷ Call 2 (Write 11 (Coefficient (fin true 1 (pos 1000)))) ∷ Call 2 (Write 11 (Coefficient (inf true))) ∷ Call 2 (Write 11 (Coefficient nan)) ∷ Call 2 (Write 11 (Whole (pos 0))) ∷ [])
     (0 ∷ 0 ∷ 9 ∷ 9 ∷ 9 ∷ []))
+    -- Document 02, Five. Vb 1,863.55 litres, VbD 931.78, VbT 2,795.33; Vm 1,000, VmD 1,000, VmT 2,000. Cut off downwards they are 1,863, 931 and 2,795: the kept total, and not
+    -- 1,863 + 931 = 2,794
+    ∷ row (Request 5) (readoutCase factoryDevice (bothSides ++ (Ask (question.Readout 156) ∷ [])) (0 ∷ 0 ∷ 0 ∷ []) (1863 ∷ 931 ∷ 2795 ∷ 1000 ∷ 1000 ∷ 2000 ∷ []))
+    -- The check character by hand. Characters that stand in all six lines, or six times in each, cancel in pairs: `:`, `3`, `0`, `(`, `.`, `*`, `m`, `3`, `)`, CR, LF, and the high
+    -- halves of the 72 digits. The ends of the addresses, 0, 1, 2 twice, cancel too. Left are `2` three times and `4` three times, 32 xor 34 = 06; `!`, CR, LF, ETX, 21 xor 0d xor 0a xor
+    -- 03 = 25; together 23; and the digits themselves: 1 8 6 3 give c, 9 3 1 give b, 2 7 9 5 give 9, 1, 1 and 2; c xor b xor 9 xor 1 xor 1 xor 2 = c. 23 xor 0c = 2f, which is `/`
+    ∷ row (Request 5) (checkCase (litres 1863 931 2795 1000 1000 2000) 47)
+    ∷ row (Request 5) (bufferCase factoryDevice bothSides (0 ∷ 0 ∷ []) (replicate 156 170) itsMessage)
+    -- no digit but 0: 23, which is `#`. 72 nines cancel. One 1: 22. The digits 1 to 9, 0, 1, 2 give 2: 21
+    ∷ row (Request 5) (checkCase (litres 0 0 0 0 0 0) 35)
+    ∷ row (Request 5) (checkCase (litres 999999999999 999999999999 999999999999 999999999999 999999999999 999999999999) 35)
+    ∷ row (Request 5) (checkCase (litres 0 0 0 0 0 1) 34)
+    ∷ row (Request 5) (checkCase (litres 0 123456789012 0 0 0 0) 33)
+    -- the bytes past the message stay; in a buffer one byte short, or empty, all do
+    ∷ row (Request 5) (bufferCase factoryDevice bothSides (0 ∷ 0 ∷ []) (replicate 156 170 ++ (7 ∷ 0 ∷ 255 ∷ [])) (itsMessage ++ (7 ∷ 0 ∷ 255 ∷ [])))
+    ∷ row (Request 5) (bufferCase factoryDevice bothSides (0 ∷ 0 ∷ []) (replicate 155 170) (replicate 155 170))
+    ∷ row (Request 5) (bufferCase factoryDevice bothSides (0 ∷ 0 ∷ []) [] [])
+    -- 16 below 156 bytes, and not from 156 on. A fresh device says six zeros
+    ∷ row (Request 5) (readoutCase factoryDevice (Ask (question.Readout 0) ∷ Ask (question.Readout 155) ∷ Ask (question.Readout 156) ∷ Ask (question.Readout 157) ∷ []) (16 ∷ 16 ∷ 0 ∷ 0 ∷ []) (replicate 12 0))
+    -- a readout of one moment, in the middle of sessions at both doors, counts as nothing for them: the commit is stale as in H11
+    ∷ row (Request 5) (runCase factoryDevice
+    (Turn (Open 2 1111) ∷ Call 1 Begin ∷ Call 1 (Read 16) ∷ Call 2 Begin ∷ Ask (question.Readout 156) ∷ Call 2 (Write 16 (Whole (pos 9900))) ∷ Ask (question.Readout 12) ∷ Commit 2 ∷ Ask (question.Readout 200)
+    ∷ Call 1 (Write 14 (Whole (pos 200000))) ∷ Commit 1 ∷ [])
+    (0 ∷ 0 ∷ 0 ∷ 0 ∷ 0 ∷ 0 ∷ 16 ∷ 0 ∷ 0 ∷ 0 ∷ 11 ∷ []))
+    -- cut off and never rounded up: 99,999 hundred-thousandths are no litre, 199,999 are one
+    ∷ row (Request 5) (readoutCase (deviceAt (counts 0 0 0 99999 199999 299998)) (Ask (question.Readout 156) ∷ []) (0 ∷ []) (0 ∷ 1 ∷ 2 ∷ 0 ∷ 0 ∷ 0 ∷ []))
+    -- the highest values, and the totals under their rollover
+    ∷ row (Request 5) (readoutCase (deviceAt (counts 999999999999 999999999999 999999999998 99999999999999999 99999999999999999 99999999999999998)) (Ask (question.Readout 156) ∷ []) (0 ∷ [])
+    (999999999999 ∷ 999999999999 ∷ 999999999999 ∷ 999999999999 ∷ 999999999999 ∷ 999999999998 ∷ []))
+    -- a total that is not main plus disturbed: 1 comes before 16, and nothing is written
+    ∷ row (Request 5) (runCase (deviceAt (counts 1 0 0 0 0 0)) (Ask (question.Readout 155) ∷ Ask (question.Readout 156) ∷ []) (1 ∷ 1 ∷ []))
+    ∷ row (Request 5) (bufferCase (deviceAt (counts 1 0 0 0 0 0)) [] [] (replicate 157 170) (replicate 157 170))
     ∷ []

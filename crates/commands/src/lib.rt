@@ -18,10 +18,11 @@ pub enum LockTurn {
     Shut(u64),
 }
 
-// A question changes nothing, whatever it answers.
+// A question changes nothing, whatever it answers. A readout says how many bytes are lent for its message.
 pub enum Question {
     Report,
     Outputs,
+    Readout(u64),
     Archive(u64),
     Log(u64),
     Audit(u64),
@@ -45,6 +46,12 @@ pub enum Command {
     Commit(u64),
 }
 
+// What a readout wrote: its six values, in litres. `room` is how many bytes were lent for the message.
+pub struct Readout {
+    pub room: u64,
+    pub values: message::Values,
+}
+
 // What is given beside the number: nothing if the command was refused or has nothing to give.
 pub enum Given {
     Nothing,
@@ -52,6 +59,7 @@ pub enum Given {
     Report(state::Moment),
     Emitted(outputs::Emitted),
     Outputs(outputs::AllShown),
+    Readout(Readout),
     Archive(books::ArchiveLine),
     Log(books::LogLine),
     Audit(books::AuditLine),

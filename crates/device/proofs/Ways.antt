@@ -58,6 +58,7 @@ seen-by sound s Clear archive log audit = refl
 seen-by sound s (Tick n) archive log audit = refl
 seen-by sound s (Ask question.Report) archive log audit = refl
 seen-by sound s (Ask question.Outputs) archive log audit = refl
+seen-by sound s (Ask (question.Readout room)) archive log audit = refl
 seen-by sound s (Ask (question.Archive i)) archive log audit = refl
 seen-by sound s (Ask (question.Log i)) archive log audit = refl
 seen-by sound s (Ask (question.Audit i)) archive log audit = refl
@@ -136,6 +137,7 @@ module _ (sound : Bool) (s : State) (seen : Reply) (archive : List ArchiveLine) 
 reply-is : (q : Question) (w : World) → replyBy (wholeB (w .state)) q w ≡ replyTo q w
 reply-is question.Report w = refl
 reply-is question.Outputs w = outputs-so (w .state)
+reply-is (question.Readout room) w = refl
 reply-is (question.Archive i) w = archive-line-so (w .state) i (w .archive)
 reply-is (question.Log i) w = log-line-so (w .state) i (w .log)
 reply-is (question.Audit i) w = audit-line-so (w .state) i (w .audit)

@@ -78,6 +78,7 @@ plainLine kind number = record { kind = kind; number = number }
 unfoldable pub lineAsked : Question → Line
 lineAsked question.Report = plainLine 0 0
 lineAsked question.Outputs = plainLine 0 0
+lineAsked (question.Readout room) = plainLine 0 0
 lineAsked (question.Archive i) = plainLine 1 i
 lineAsked (question.Log i) = plainLine 2 i
 lineAsked (question.Audit i) = plainLine 3 i
@@ -94,6 +95,7 @@ lineOf (Commit door) = plainLine 0 0
 unfoldable pub stateReply : Bool → State → Question → Reply
 stateReply sound s question.Report = panel.reportBy sound s
 stateReply sound s question.Outputs = outputsBy sound s
+stateReply sound s (question.Readout room) = panel.readoutBy sound s room
 stateReply sound s (question.Archive i) = plain 0
 stateReply sound s (question.Log i) = plain 0
 stateReply sound s (question.Audit i) = plain 0
@@ -130,6 +132,7 @@ worldOf s archive log audit = record { state = s; archive = archive; log = log; 
 abbrev pub replyBy : Bool → Question → World → Reply
 replyBy sound question.Report w = panel.reportBy sound (w .state)
 replyBy sound question.Outputs w = outputsBy sound (w .state)
+replyBy sound (question.Readout room) w = panel.readoutBy sound (w .state) room
 replyBy sound (question.Archive i) w = archiveLineBy sound (w .state) i (w .archive)
 replyBy sound (question.Log i) w = logLineBy sound (w .state) i (w .log)
 replyBy sound (question.Audit i) w = auditLineBy sound (w .state) i (w .audit)

@@ -131,6 +131,7 @@ fn line_asked(q: Question) -> Line
     match q {
         Question::Report => plain_line(OTHER, 0),
         Question::Outputs => plain_line(OTHER, 0),
+        Question::Readout(_) => plain_line(OTHER, 0),
         Question::Archive(i) => plain_line(ARCHIVE, i),
         Question::Log(i) => plain_line(LOG, i),
         Question::Audit(i) => plain_line(AUDIT, i),
@@ -170,6 +171,7 @@ fn state_reply(s: State, sound: bool, q: Question) -> Reply
     match q {
         Question::Report => panel::report_by(s, sound),
         Question::Outputs => panel::outputs_by(s, sound),
+        Question::Readout(room) => panel::readout_by(s, sound, room),
         Question::Archive(_) => commands::plain_reply(state::faults::DONE),
         Question::Log(_) => commands::plain_reply(state::faults::DONE),
         Question::Audit(_) => commands::plain_reply(state::faults::DONE),

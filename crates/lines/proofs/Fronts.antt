@@ -10,8 +10,10 @@ use lib.ListN.{length, getD, take, drop, length-append, take-append-drop}
 use lib.Seq.{take-suc, length-take-le}
 use native.Mathlib.Nat.{min-eq-left}
 use native.Mathlib.Numerals.{add-one}
-use Rattle.text.specs.Echoes.{Put, echoText, enough, textFor}
-use Rattle.text.proofs.Puts.{room-for, behind}
+use Rattle.spelling.specs.Spelling.{Put}
+use Rattle.text.specs.Echoes.{echoText, enough, textFor}
+use Rattle.spelling.proofs.Puts.{behind}
+use Rattle.text.proofs.Puts.{room-for}
 use Rattle.desk.specs.declared.Desk.{Desk}
 use Rattle.desk.specs.declared.Response.{Response}
 use Rattle.desk.specs.declared.Served.{Served}

@@ -7,7 +7,7 @@ use trials::trial::exact;
 // Every command, with arguments that a whole state accepts.
 fn accepted(s: State, x: Lines) {
     each(
-        b"open 2 1234\nshut 1\nclear\nreport\nlog 0\narchive 0\ntick 5\noutputs\n",
+        b"open 2 1234\nshut 1\nclear\nreport\nlog 0\narchive 0\ntick 5\noutputs\nreadout 156\n",
         s,
         x,
     );
@@ -70,6 +70,11 @@ fn ticks(s: State, x: Lines) {
     );
 }
 
+// No byte, one less than the message has, one more, and the most that the bench lends.
+fn readouts(s: State, x: Lines) {
+    each(b"readout 0\nreadout 155\nreadout 157\nreadout 200\n", s, x);
+}
+
 fn sessions(s: State, x: Lines) {
     each(
         b"begin 0\nbegin 1\nbegin 3\nabandon 0\nabandon 2\nabandon 3\ncommit 0\ncommit 2\ncommit 3\n",
@@ -108,6 +113,7 @@ pub fn all(s: State, x: Lines) {
     locks_and_lines(s, x);
     cycles(s, x);
     ticks(s, x);
+    readouts(s, x);
     sessions(s, x);
     writes(s, x);
 }

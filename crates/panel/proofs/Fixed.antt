@@ -21,6 +21,7 @@ use Rattle.panel.proofs.tick.Reads as tick
 use Rattle.panel.proofs.outputs.Reads as outputs
 use Rattle.panel.proofs.«open_lock» as opens
 use Rattle.panel.proofs.«shut_lock» as shuts
+use Rattle.panel.proofs.readout as readouts
 use Rattle.panel.proofs.«archive_line» as archives
 use Rattle.panel.proofs.«log_line» as logs
 
@@ -51,6 +52,10 @@ module _ {M : Type 1} (𝓤 : URA M) (H : Heap 𝓤) (A : Atoms 𝓤) (mem : Mem
   pub shut-fixed : (κs : Lfts 1) (a : _) (r q : Answer) (e f : AtExit shuts.ended κs)
       → ent 𝓤 (conj 𝓤 (shuts.clauses 𝓤 H A mem run κs a .ensures tt r e) (shuts.clauses 𝓤 H A mem run κs a .ensures tt q f)) (fact 𝓤 ((r ≡ q) × (now (e .1 .1 .0) ≡ now (f .1 .1 .0))))
   shut-fixed κs a r q e f = together 𝓤 _ _ ((r ≡ q) × (now (e .1 .1 .0) ≡ now (f .1 .1 .0))) (λ x y. (fixed (x .0) (y .0), fixed (x .1) (y .1)))
+
+  pub readout-fixed : (κs : Lfts 1) (a : _) (r q : Reply) (e f : AtExit readouts.ended κs)
+      → ent 𝓤 (conj 𝓤 (readouts.clauses 𝓤 H A mem run κs a .ensures tt r e) (readouts.clauses 𝓤 H A mem run κs a .ensures tt q f)) (fact 𝓤 ((r ≡ q) × (now (e .1 .0) ≡ now (f .1 .0))))
+  readout-fixed κs a r q e f = together 𝓤 _ _ ((r ≡ q) × (now (e .1 .0) ≡ now (f .1 .0))) (λ x y. (fixed (x .0) (y .0), fixed (x .1) (y .1)))
 
   pub archive-line-fixed : (κs : Lfts 1) (a : _) (r q : Reply) (e f : AtExit archives.ended κs)
       → ent 𝓤 (conj 𝓤 (archives.clauses 𝓤 H A mem run κs a .ensures tt r e) (archives.clauses 𝓤 H A mem run κs a .ensures tt q f)) (fact 𝓤 (r ≡ q))

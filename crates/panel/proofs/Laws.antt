@@ -4,7 +4,7 @@
 use mathlib.Core.Path.{_≡_, refl, sym, ap, _∙_}
 use mathlib.Core.Bool.{Bool, true, false, not, cond, _&&_, _||_, true≢false, and-true, and-false}
 use mathlib.Core.List.{List, []}
-use Prim.Native.Nat.{ℕ, zero, suc, _+_, _≤_, _<_}
+use Prim.Native.Nat.{ℕ, zero, suc, _≤_, _<_}
 use native.Mathlib.Nat.{add-zero}
 use native.Mathlib.Omega.{arith}
 use lib.Dec.{ltb, leb, eqb}
@@ -27,7 +27,6 @@ use Rattle.notes.specs.Notes.{numbered, logged}
 use Rattle.state.specs.declared.Counters.{Counters}
 use Rattle.state.specs.declared.Alarms.{Alarms}
 use Rattle.state.specs.declared.Locks.{Locks}
-use Rattle.state.specs.declared.Core.{Core}
 use Rattle.state.specs.declared.State.{State}
 use Rattle.state.specs.State.{fresh, latchedB, wholeB}
 use Rattle.state.proofs.Sound.{Totalled, totals-sound, measured-sound, Sound, SoundCore, whole-sound, sound-whole, fresh-whole}

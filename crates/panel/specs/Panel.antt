@@ -1,18 +1,22 @@
--- The commands that are no cycle and no session step: start, lock turns, clear, tick, the two reports, and the lines of the archive and the logbook.
--- Document 01, "Doors, sessions, locks", "Books" and "Number on the fault card"; document 02, Three.
+-- The commands that are no cycle and no session step: start, lock turns, clear, tick, the two reports, the readout, and the lines of the archive and the logbook.
+-- Document 01, "Doors, sessions, locks", "Books" and "Number on the fault card"; document 02, Three and Five.
 -- Assumes nothing.
 use Prim.Native.Nat.{ℕ, _+_}
 use mathlib.Core.Bool.{Bool, true, false, not, cond, _&&_, _||_}
-use mathlib.Core.List.{List, [], _∷_}
-use lib.ListN.{length}
+use mathlib.Core.List.{List, [], _∷_, _++_}
+use lib.ListN.{length, drop}
 use lib.Dec.{ltb, leb, eqb}
 use Rattle.outputs.specs.Four.{ruleAt, allTicked, mostTick, allShown, emittedOf, shownOf}
 use Rattle.calendar.specs.Calendar.{endOfTime}
+use Rattle.units.specs.Units.{wholeLitres}
+use Rattle.message.specs.declared.Values.{Values}
+use Rattle.message.specs.Message.{message, size}
 use Rattle.settings.specs.Settings.{lockCount}
 use Rattle.ring.specs.Ring.{archiveLines, logLines, advancedBook}
 use Rattle.books.specs.declared.ArchiveLine.{ArchiveLine}
 use Rattle.books.specs.declared.LogLine.{LogLine}
 use Rattle.books.specs.Books.{noArchive, noLog}
+use Rattle.state.specs.declared.Counters.{Counters}
 use Rattle.state.specs.declared.Alarms.{Alarms}
 use Rattle.state.specs.declared.Locks.{Locks}
 use Rattle.state.specs.declared.Core.{Core}
@@ -189,6 +193,33 @@ reportOf s = reportBy (wholeB s) s
 -- account, waiting and lost of each output; refused by 1 alone
 unfoldable pub outputsOf : State → Reply
 outputsOf s = giving (reportRefusal (wholeB s)) (given.Outputs (shownOf (allShown (ruleAt (s .core .settings)) (s .core .outputs))))
+
+-- ---- readout (document 02, Five)
+
+-- "Vb, VbD, VbT, Vm, VmD, VmT", each as it is kept and "cut off downwards" to litres. VbT is the kept total
+unfoldable pub valuesOf : Counters → Values
+valuesOf c = record {
+  vb = wholeLitres (c .vb);
+  vbd = wholeLitres (c .vbd);
+  vbt = wholeLitres (c .vbt);
+  vm = c .vm .0;
+  vmd = c .vmd .0;
+  vmt = c .vmt .0;
+}
+
+-- "16, the lent buffer is shorter than the message, after 1"; `room` is the length of the buffer
+unfoldable pub readoutRefusal : Bool → ℕ → ℕ
+readoutRefusal sound room = firstOf ((1, not sound) ∷ (16, ltb room size) ∷ [])
+
+unfoldable pub readoutBy : Bool → State → ℕ → Reply
+readoutBy sound s room = giving (readoutRefusal sound room) (given.Readout (record { room = room; values = valuesOf (s .core .measured .counters) }))
+
+abbrev pub readoutOf : State → ℕ → Reply
+readoutOf s room = readoutBy (wholeB s) s room
+
+-- what the lent buffer holds afterwards: the message, and "the bytes past the message stay as they were"; where it is refused, "nothing written"
+unfoldable pub readoutLeaves : State → List ℕ → List ℕ
+readoutLeaves s old = cond (eqb (readoutRefusal (wholeB s) (length old)) 0) (message (valuesOf (s .core .measured .counters)) ++ drop size old) old
 
 -- ---- a line of a store: line i of the lines held, newest first
 

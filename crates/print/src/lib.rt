@@ -1,4 +1,4 @@
-// How the trial programs and the card print to standard output: words, numbers, and floats by their bits. `number`, `signed`, `flag` and `float` put a space first.
+// How the trial programs and the card print to standard output: words, numbers, floats by their bits, and bytes. `number`, `signed`, `flag` and `float` put a space first.
 use libc::STDOUT_FILENO;
 use settings::Value;
 ghost use mathlib.Core.Path.{_≡_};
@@ -106,6 +106,19 @@ pub fn pattern(x: f64) {
 pub fn float(x: f64) {
     text(b" ");
     pattern(x);
+}
+
+fn pair(b: u8) {
+    io::print_hex(STDOUT_FILENO, b as u64, 2);
+}
+
+// Bytes in a row, two digits each.
+pub fn hex(s: &[u8]) {
+    let mut i: usize = 0;
+    while i < s.len() {
+        pair(s[i]);
+        i += 1;
+    }
 }
 
 // One less. Below the lowest number there is none: it stays.

@@ -9,7 +9,7 @@ use Rattle.state.specs.declared.State.{State}
 use Rattle.state.specs.State.{noSession, wholeB}
 use Rattle.state.specs.Card.{firstOf}
 use Rattle.asked.specs.Asked.{lineRefusal, lineGiven}
-use Rattle.panel.specs.Panel.{turned, refusedTurn, openRefusal, openOf, shutRefusal, shutOf, reportRefusal, reportBy, outputsOf}
+use Rattle.panel.specs.Panel.{turned, refusedTurn, openRefusal, openOf, shutRefusal, shutOf, reportRefusal, reportBy, outputsOf, readoutRefusal, readoutBy}
 use Rattle.doors.specs.Doors.{sessionAt, withSession, cellAt, withCell, begun, markedRead, stagedCell, valueRead, beginRefusal, beginBy, abandonRefusal, abandonBy, readRefusal, readAfter, readBy, writeRefusal, writeAfter, writeBy}
 use Rattle.commands.specs.declared.Given.the-variants as given
 use Rattle.runs.specs.Rows.{asking, turnRows, callRows, rowsOf, printedAfter}
@@ -27,9 +27,10 @@ turn-is (Shut lock) w = refl
 -- ---- questions
 
 pub reply-is : (x : Question) (w : World) → replyTo x w ≡ giving (firstOf (rowsOf (Ask x) w)) (asking x (bodyOf w) .gives)
-unfolding reportBy reportRefusal outputsOf lineGiven lineRefusal
+unfolding reportBy reportRefusal outputsOf readoutBy readoutRefusal lineGiven lineRefusal
 reply-is question.Report w = rw (and-true (wholeB (w .state)))
 reply-is question.Outputs w = rw (and-true (wholeB (w .state)))
+reply-is (question.Readout room) w = rw (and-true (wholeB (w .state)))
 reply-is (question.Archive i) w = refl
 reply-is (question.Log i) w = refl
 reply-is (question.Audit i) w = refl
@@ -77,6 +78,7 @@ printed-turn (Shut lock) w = refl
 pub printed-question : (x : Question) (w : World) → printedAfter 1 (asking x (bodyOf w) .rows) ≡ true
 printed-question question.Report w = refl
 printed-question question.Outputs w = refl
+printed-question (question.Readout room) w = refl
 printed-question (question.Archive i) w = refl
 printed-question (question.Log i) w = refl
 printed-question (question.Audit i) w = refl

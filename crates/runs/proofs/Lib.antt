@@ -19,6 +19,7 @@ pub mod Times
 pub mod Latches
 pub mod Told
 pub mod Lines
+pub mod Readouts
 pub mod Newest
 pub mod Numbers
 pub mod Crossed

@@ -74,6 +74,7 @@ module _ (w : World) (s : Ready w) where
   lent-full : (q : Question) → asking q (bodyOf w) .lent ≡ true
   lent-full question.Report = refl
   lent-full question.Outputs = refl
+  lent-full (question.Readout room) = refl
   lent-full (question.Archive i) = archive-full
   lent-full (question.Log i) = log-full
   lent-full (question.Audit i) = audit-full

@@ -228,6 +228,7 @@ emitted-none false v k e = refl
 asked-none : (q : Question) (w : World) → emittedBy (givenBy (Ask q) w) ≡ []
 asked-none question.Report w = refl
 asked-none question.Outputs w = refl
+asked-none (question.Readout room) w = refl
 asked-none (question.Archive i) w = refl
 asked-none (question.Log i) w = refl
 asked-none (question.Audit i) w = refl

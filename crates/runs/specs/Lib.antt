@@ -12,3 +12,4 @@ pub mod Sums
 pub mod Outputs
 pub mod Latches
 pub mod Lines
+pub mod Readouts

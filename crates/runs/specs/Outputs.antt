@@ -70,6 +70,7 @@ emittedBy (given.Value v) = []
 emittedBy (given.Report m) = []
 emittedBy (given.Emitted e) = numbersOf e
 emittedBy (given.Outputs all) = []
+emittedBy (given.Readout x) = []
 emittedBy (given.Archive l) = []
 emittedBy (given.Log l) = []
 emittedBy (given.Audit l) = []

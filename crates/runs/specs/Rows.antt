@@ -1,5 +1,5 @@
 -- The rows of the fault card, command by command, in the printed order: "Where several apply, 1 comes first, then 3, then 2 or 4, then the
--- rest in rising number." Document 02, Three: 15, after 1.
+-- rest in rising number." Document 02, Three: 15, after 1. Five: 16, after 1.
 -- Assumes nothing.
 use Prim.Native.Nat.{ℕ, _-_}
 use mathlib.Core.Bool.{Bool, true, not, cond, _&&_, _||_}
@@ -8,6 +8,7 @@ use lib.Dec.{ltb, leb, eqb}
 use lib.ListN.{length, getD}
 use Rattle.outputs.specs.Four.{ruleAt, mostTick, allShown, shownOf}
 use Rattle.calendar.specs.Calendar.{endOfTime}
+use Rattle.message.specs.Message.{size}
 use Rattle.units.specs.Units.{mostPulses}
 use Rattle.settings.specs.Settings.{fitsB, orderedB}
 use Rattle.ring.specs.declared.Ring.{Ring}
@@ -18,7 +19,7 @@ use Rattle.state.specs.declared.Locks.{Locks}
 use Rattle.state.specs.declared.State.{State}
 use Rattle.state.specs.State.{wholeB}
 use Rattle.cycle.specs.Cycle.{amountsFor, isTooLarge}
-use Rattle.panel.specs.Panel.{noLock, rightCode, reported}
+use Rattle.panel.specs.Panel.{noLock, rightCode, reported, valuesOf}
 use Rattle.doors.specs.Doors.{noDoor, noSuchSetting, sessionAt, lockMissing, staleB, asStand, refusedCommit}
 use Rattle.commands.specs.declared.Given.the-variants as given
 use Rattle.runs.specs.Exactly.{Rows}
@@ -50,6 +51,8 @@ askedLine give size none r l i =
 abbrev pub asking : Question → Body → Asked
 asking question.Report b = record { lent = true; rows = []; gives = given.Report (reported (b .core)) }
 asking question.Outputs b = record { lent = true; rows = []; gives = given.Outputs (shownOf (allShown (ruleAt (b .core .settings)) (b .core .outputs))) }
+-- 16: the lent buffer is shorter than the message
+asking (question.Readout room) b = record { lent = true; rows = (16, ltb room size) ∷ []; gives = given.Readout (record { room = room; values = valuesOf (b .core .measured .counters) }) }
 asking (question.Archive i) b = askedLine given.Archive archiveLines noArchive (b .core .stores .archive) (b .archive) i
 asking (question.Log i) b = askedLine given.Log logLines noLog (b .core .stores .log .ring) (b .log) i
 asking (question.Audit i) b = askedLine given.Audit auditLines noAudit (b .core .stores .audit .ring) (b .audit) i
@@ -90,9 +93,9 @@ rowsOf (Commit door) w =
 
 -- the last number of the table
 abbrev pub lastNumber : ℕ
-lastNumber = 15
+lastNumber = 16
 
--- the printed order: 1, 3, 2, 4, 5, .. 15; a number's place in it
+-- the printed order: 1, 3, 2, 4, 5, .. 16; a number's place in it
 abbrev pub placeInTable : ℕ → ℕ
 placeInTable n = cond (eqb n 2) 3 (cond (eqb n 3) 2 n)
 

@@ -39,3 +39,6 @@ pub const TOO_LARGE: u64 = 14;
 
 // A tick that names more than 600.
 pub const LONG_TICK: u64 = 15;
+
+// A buffer lent for a readout that is shorter than the message.
+pub const SHORT_BUFFER: u64 = 16;

@@ -45,6 +45,7 @@ lockTurned (Shut lock) w = panel.shutOf (w .state) lock (w .log)
 abbrev pub replyTo : Question → World → Reply
 replyTo question.Report w = panel.reportOf (w .state)
 replyTo question.Outputs w = panel.outputsOf (w .state)
+replyTo (question.Readout room) w = panel.readoutOf (w .state) room
 replyTo (question.Archive i) w = panel.archiveLineOf (w .state) i (w .archive)
 replyTo (question.Log i) w = panel.logLineOf (w .state) i (w .log)
 replyTo (question.Audit i) w = doors.auditLineOf (w .state) i (w .audit)

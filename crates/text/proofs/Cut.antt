@@ -1,4 +1,4 @@
--- Of an unfinished line at most 201 bytes are kept, one more than a command may have, so that memory does not grow. These laws say that nothing is lost: the kept
+-- Of an unfinished line at most 501 bytes are kept, one more than a command may have, so that memory does not grow. These laws say that nothing is lost: the kept
 -- part gets the answer of the whole line, also after the rest of the line has come.
 -- Assumes nothing.
 use Prim.Native.Nat.{ℕ, suc, _<_}
@@ -34,9 +34,9 @@ cut-continued a b = by-test (ltb deciding (length a)) refl
     by-test true e =
         let h : deciding < length a = ltb-true deciding (length a) e in
         let size : length (take deciding a) ≡ deciding = length-take-le deciding a (omega arith) in
-        by-first (take deciding a ++ b) (a ++ b) (omega (arith, length-append (take deciding a) b)) (omega (arith, length-append a b)) (first-kept 200 a b (omega arith))
+        by-first (take deciding a ++ b) (a ++ b) (omega (arith, length-append (take deciding a) b)) (omega (arith, length-append a b)) (first-kept longest a b (omega arith))
     by-test false e = ap (λ (l : List ℕ). entryOf (l ++ b)) (take-all deciding a (ltb-false deciding (length a) e))
 
--- A line cut to its first 201 bytes gets the answer of the whole line.
+-- A line cut to its first 501 bytes gets the answer of the whole line.
 pub cut-decides : (line : List ℕ) → entryOf (take deciding line) ≡ entryOf line
 cut-decides line = ap entryOf (sym (append-nil (take deciding line))) ∙ cut-continued line [] ∙ ap entryOf (append-nil line)

@@ -4,4 +4,5 @@ pub mod Bytes
 pub mod Cut
 pub mod Digits
 pub mod Floats
+pub mod Lent
 pub mod Puts

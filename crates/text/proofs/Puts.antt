@@ -1,93 +1,26 @@
--- A text put at a place, byte by byte, and digits put from the last to the first.
+-- How many digits a number has; words and lines put at a place.
 -- Assumes nothing.
-use mathlib.Core.Path.{_≡_, refl, sym, ap, _∙_, subst}
+use mathlib.Core.Path.{_≡_, refl, sym, ap, _∙_}
 use mathlib.Core.Bool.{Bool, true, false, cond}
 use mathlib.Core.List.{List, [], _∷_, _++_, append-assoc, append-nil}
-use Prim.Native.Nat.{ℕ, zero, suc, _+_, _-_, _/_, _%_, _≤_, _<_, suc-le-suc}
-use native.Mathlib.Nat.{add-zero, add-suc, le-refl}
+use Prim.Native.Nat.{ℕ, zero, suc, _+_, _*_, _/_, _≤_, _<_, suc-le-suc}
+use native.Mathlib.Nat.{le-refl}
 use native.Mathlib.Numerals.{add-one}
 use native.Mathlib.Omega.{arith}
 use borrow.Author.Tests.{lt-ltb, le-ltb}
 use lib.Dec.{ltb}
-use lib.ListN.{length, take, drop, set, length-set}
-use lib.Seq.{take-suc-set, drop-cons, drop-set-lt, drop-drop, getD-set-same, take-add}
+use lib.ListN.{length, getD, take}
+use lib.Seq.{take-suc, take-all}
 use lib.IntN.{ℤ, pos, natAbs}
 use lib.Signed.{ltZ}
-use Rattle.text.specs.Echoes.{Put, glyph, digits, placesUpTo, places, decimal, spaced, signed, bitsOf, joined, valueWords, givenWords, echoText, enough, textFor}
+use Rattle.spelling.specs.Spelling.{Put, digits}
+use Rattle.spelling.proofs.Puts.{two, retext, nothing-put}
+use Rattle.text.specs.Echoes.{placesUpTo, places, decimal, spaced, signed, bitsOf, joined, valueWords, hexed, givenWords, echoText, enough, textFor}
 use Rattle.commands.specs.declared.Given.{Given}
 use Rattle.commands.specs.declared.Echo.{Echo}
 use lib.Ieee.{Float}
 use Rattle.settings.specs.declared.Value.{Value}
 use Rattle.settings.specs.declared.Value.the-variants.{Whole, Coefficient}
-
-pub byte : (l : List ℕ) (at b : ℕ) → at < length l → Put 1 l (set l at b) at (at + 1) (b ∷ [])
-byte l at b h =
-    record {
-      holds = rw (add-one at) (take-suc-set l at b h);
-      least = omega arith;
-      most = le-refl (at + 1);
-      past = drop-set-lt (at + 1) l at b (omega arith);
-      room = length-set l at b;
-    }
-
--- what is the same from a place on is so from a later one on
-pub behind : (at next : ℕ) (a b : List ℕ) → at ≤ next → drop at a ≡ drop at b → drop next a ≡ drop next b
-behind at next a b h e =
-    let on : next ≡ at + (next - at) = omega arith in
-    rw on (sym (drop-drop (next - at) at a) ∙ ap (drop (next - at)) e ∙ drop-drop (next - at) at b)
-
--- one text after another
-pub two : {old mid new : List ℕ} {at a b : ℕ} {s t : List ℕ} {m n : ℕ} (k : ℕ) → m + n ≤ k → Put m old mid at a s → Put n mid new a b t → Put k old new at b (s ++ t)
-two {old} {mid} {new} {at} {a} {b} {s} {t} k h p q =
-    record {
-      holds = q .holds ∙ ap (λ (l : List ℕ). l ++ t) (p .holds) ∙ append-assoc (take at old) s t;
-      least = omega (arith, p .least, q .least);
-      most = omega (arith, p .most, q .most);
-      past = q .past ∙ behind a b mid old (q .least) (p .past);
-      room = q .room ∙ p .room;
-    }
-
-pub looser : {old new : List ℕ} {at next n : ℕ} {s : List ℕ} (k : ℕ) → n ≤ k → Put n old new at next s → Put k old new at next s
-looser k h p = record { holds = p .holds; least = p .least; most = omega (arith, p .most); past = p .past; room = p .room }
-
-pub retext : {old new : List ℕ} {at next n : ℕ} {s t : List ℕ} → s ≡ t → Put n old new at next s → Put n old new at next t
-retext {old} {new} {at} {next} {n} e p = subst (λ (x : List ℕ). Put n old new at next x) e p
-
--- what stands from a place on after a store there
-stored : (l : List ℕ) (p g : ℕ) → p < length l → drop p (set l p g) ≡ g ∷ drop (suc p) l
-stored l p g h =
-    drop-cons (set l p g) p 0 (rw (length-set l p g) h)
-    ∙ ap (λ (x : ℕ). x ∷ drop (suc p) (set l p g)) (getD-set-same l p g 0 h)
-    ∙ ap (λ (r : List ℕ). g ∷ r) (drop-set-lt (suc p) l p g (le-refl (suc p)))
-
--- one digit more, before those that stand already
-pub digit-more : (base at k j rest n : ℕ) (l : List ℕ) → at + k ≤ length l → suc j ≤ k
-    → digits base k n ≡ digits base (suc j) rest ++ take (k - suc j) (drop (at + suc j) l)
-    → digits base k n ≡ digits base j (rest / base) ++ take (k - j) (drop (at + j) (set l (at + j) (glyph (rest % base))))
-unfolding digits
-digit-more base at k j rest n l h q e =
-    let g = glyph (rest % base) in
-    let s : k - j ≡ suc (k - suc j) = omega arith in
-    e
-    ∙ append-assoc (digits base j (rest / base)) (g ∷ []) (take (k - suc j) (drop (at + suc j) l))
-    ∙ ap (λ (r : List ℕ). digits base j (rest / base) ++ r)
-    (ap (λ (m : ℕ). g ∷ take (k - suc j) (drop m l)) (add-suc at j)
-    ∙ sym (ap (λ (m : ℕ). take m (drop (at + j) (set l (at + j) g))) s ∙ ap (take (suc (k - suc j))) (stored l (at + j) g (omega arith))))
-
--- all of them stand
-pub digits-done : (base at k rest n : ℕ) (old l : List ℕ) → length l ≡ length old → take at l ≡ take at old → drop (at + k) l ≡ drop (at + k) old
-    → digits base k n ≡ digits base 0 rest ++ take (k - 0) (drop (at + 0) l)
-    → Put k old l at (at + k) (digits base k n)
-unfolding digits
-digits-done base at k rest n old l r t d e =
-    let z : k - 0 ≡ k = omega arith in
-    record {
-      holds = take-add at k l ∙ ap (λ (x : List ℕ). x ++ take k (drop at l)) t ∙ ap (λ (x : List ℕ). take at old ++ x) (sym (rw (z, add-zero at) at e));
-      least = omega arith;
-      most = le-refl (at + k);
-      past = d;
-      room = r;
-    }
 
 pub places-end : (n : ℕ) → placesUpTo 0 n ≡ 1
 unfolding placesUpTo
@@ -149,10 +82,32 @@ pub coefficient-text : (f : Float) (v : Value) → v ≡ Coefficient f
 unfolding joined valueWords
 coefficient-text f v e = rw (e, append-nil)
 
--- ---- lines
+-- ---- bytes in hexadecimal
 
-pub nothing-put : (n : ℕ) (old : List ℕ) (at : ℕ) → Put n old old at at []
-nothing-put n old at = record { holds = sym (append-nil (take at old)); least = le-refl at; most = omega arith; past = refl; room = refl }
+hexed-both : (a b : List ℕ) → hexed (a ++ b) ≡ hexed a ++ hexed b
+unfolding hexed
+hexed-both [] b = refl
+hexed-both (x ∷ a) b = ap (λ (l : List ℕ). digits 16 2 x ++ l) (hexed-both a b) ∙ sym (append-assoc (digits 16 2 x) (hexed a) (hexed b))
+
+hexed-more : (l : List ℕ) (i : ℕ) → i < length l → hexed (take i l) ++ digits 16 2 (getD l i 0) ≡ hexed (take (i + 1) l)
+unfolding hexed
+hexed-more l i h =
+    let more : take (i + 1) l ≡ take i l ++ (getD l i 0 ∷ []) = rw (add-one i) (take-suc l i 0 h) in
+    sym (ap hexed more ∙ hexed-both (take i l) (getD l i 0 ∷ []) ∙ ap (λ (r : List ℕ). hexed (take i l) ++ r) (append-nil (digits 16 2 (getD l i 0))))
+
+pub no-byte : (old l : List ℕ) (at : ℕ) → Put 0 old old at at (hexed (take 0 l))
+unfolding hexed
+no-byte old l at = nothing-put 0 old at
+
+-- one byte more
+pub byte-more : {old mid new : List ℕ} {at next last : ℕ} (l : List ℕ) (i : ℕ) → i < length l → Put (i * 2) old mid at next (hexed (take i l)) → Put 2 mid new next last (digits 16 2 (getD l i 0))
+    → Put ((i + 1) * 2) old new at last (hexed (take (i + 1) l))
+byte-more l i h p q = retext (hexed-more l i h) (two ((i + 1) * 2) (omega arith) p q)
+
+pub all-bytes : {old new : List ℕ} {at next : ℕ} (l : List ℕ) → Put (length l * 2) old new at next (hexed (take (length l) l)) → Put (length l * 2) old new at next (hexed l)
+all-bytes l p = retext (ap hexed (take-all (length l) l (le-refl (length l)))) p
+
+-- ---- lines
 
 pub given-text : (g x : Given) → g ≡ x → joined (givenWords x) ≡ joined (givenWords g)
 given-text g x e = rw e

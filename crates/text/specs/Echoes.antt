@@ -1,12 +1,11 @@
 -- What is said, as a line: a number, words with a space before each, and a line feed at the end.
 -- Assumes nothing.
-use Prim.Native.Nat.{ℕ, zero, suc, _+_, _-_, _/_, _%_, _≤_}
+use Prim.Native.Nat.{ℕ, zero, suc, _+_, _/_, min}
 use Prim.Native.Char.{code as byte}
-use mathlib.Core.Path.{_≡_}
 use mathlib.Core.Bool.{Bool, cond}
 use mathlib.Core.List.{List, [], _∷_, _++_}
 use lib.Dec.{ltb}
-use lib.ListN.{length, take, drop}
+use lib.ListN.{length, replicate}
 use lib.IntN.{ℤ, pos, natAbs}
 use lib.Signed.{ltZ}
 use lib.Ieee.{Float, isNan, toBits, binary64}
@@ -21,34 +20,17 @@ use Rattle.settings.specs.declared.Value.the-variants.{Whole, Coefficient}
 use Rattle.outputs.specs.declared.Shown.{Shown}
 use Rattle.outputs.specs.declared.Emitted.{Emitted}
 use Rattle.outputs.specs.declared.AllShown.{AllShown}
+use Rattle.commands.specs.declared.Readout.{Readout}
 use Rattle.commands.specs.declared.Given.{Given}
 use Rattle.commands.specs.declared.Given.the-variants as given
 use Rattle.commands.specs.declared.Reply.{Reply}
 use Rattle.commands.specs.declared.Echo.{Echo}
 use Rattle.commands.specs.declared.Echo.the-variants as echo
-use Rattle.text.specs.Words.{bytes, space}
-
--- ---- a text put at a place
-
--- a text was put at a place: what stood before the place still does, the next place is right behind the text and at most n bytes on, what stands from there on is
--- as it was, and the length is the same
-pub record Put (n : ℕ) (old new : List ℕ) (at next : ℕ) (text : List ℕ) : Type 0 where
-  pub holds : take next new ≡ take at old ++ text
-  pub least : at ≤ next
-  pub most : next ≤ at + n
-  pub past : drop next new ≡ drop next old
-  pub room : length new ≡ length old
+use Rattle.spelling.specs.Spelling.{bytes, digits}
+use Rattle.message.specs.Message.{written}
+use Rattle.text.specs.Words.{space}
 
 -- ---- numbers
-
--- `0` to `9`, then `a` to `f`
-unfoldable pub glyph : ℕ → ℕ
-glyph d = cond (ltb d 10) (byte "0" + d) (byte "a" - 10 + d)
-
--- the last k digits of n in this base, in reading order
-unfoldable pub digits : ℕ → ℕ → ℕ → List ℕ
-digits base zero n = []
-digits base (suc k) n = digits base k (n / base) ++ (glyph (n % base) ∷ [])
 
 -- how many digits n has, but never more than m + 1
 unfoldable pub placesUpTo : ℕ → ℕ → ℕ
@@ -139,6 +121,22 @@ outputWords x = decimal (x .account) ∷ decimal (x .waiting) ∷ decimal (x .lo
 unfoldable pub outputsWords : AllShown → List (List ℕ)
 outputsWords all = outputWords (all .one) ++ (outputWords (all .two) ++ (outputWords (all .three) ++ outputWords (all .four)))
 
+-- two digits a byte
+unfoldable pub hexed : List ℕ → List ℕ
+hexed [] = []
+hexed (b ∷ l) = digits 16 2 b ++ hexed l
+
+-- the buffer that the bench lends for a readout: each of its bytes, and the most that it may have
+abbrev pub unwritten : ℕ
+unwritten = 170
+
+abbrev pub mostLent : ℕ
+mostLent = 200
+
+-- the whole of that buffer, with the message in it
+unfoldable pub readoutWords : Readout → List (List ℕ)
+readoutWords x = hexed (written (x .values) (replicate (min (x .room) mostLent) unwritten)) ∷ []
+
 -- ---- lines
 
 -- what is given beside the number
@@ -148,6 +146,7 @@ givenWords (given.Value v) = valueWords v
 givenWords (given.Report m) = momentWords m
 givenWords (given.Emitted e) = emittedWords e
 givenWords (given.Outputs all) = outputsWords all
+givenWords (given.Readout x) = readoutWords x
 givenWords (given.Archive l) = archiveWords l
 givenWords (given.Log l) = logWords l
 givenWords (given.Audit l) = auditWords l
@@ -167,7 +166,7 @@ echoText (echo.Said r) = saidText r
 
 -- room enough for any line; where there is less, nothing is put
 abbrev pub enough : ℕ
-enough = 288
+enough = 422
 
 unfoldable pub textFor : List ℕ → ℕ → Echo → List ℕ
 textFor out at e = cond (ltb (length out) (at + enough)) [] (echoText e)

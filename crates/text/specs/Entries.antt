@@ -27,12 +27,14 @@ use Rattle.text.specs.declared.numbers.ComputedReading.{ComputedReading}
 use Rattle.text.specs.declared.numbers.ComputedReading.the-variants as computedReading
 use Rattle.text.specs.declared.numbers.Wanted.{Wanted}
 use Rattle.text.specs.declared.numbers.Wanted.the-variants as wanted
-use Rattle.text.specs.Words.{bytes, sameB, word, noWord}
+use Rattle.spelling.specs.Spelling.{bytes}
+use Rattle.text.specs.Words.{sameB, word, noWord}
+use Rattle.text.specs.Echoes.{mostLent}
 use Rattle.text.specs.Numbers.{numberIn, codeOf, readingOf, rawBy, pressureBy, computedBy, valueIn}
 
 -- a longer line is no command
 abbrev pub longest : ℕ
-longest = 200
+longest = 500
 
 -- an empty line, or one that begins with `#`
 unfoldable pub isQuiet : List ℕ → Bool
@@ -48,7 +50,11 @@ alone w =
     (cond (sameB w (bytes "outputs")) (entry.Put (Ask question.Outputs))
     entry.Unknown))
 
--- begin, commit, abandon DOOR; shut LOCK; archive, log, audit I; tick N
+-- readout LEN: the bench has no longer buffer to lend
+unfoldable pub readoutAsked : ℕ → Entry
+readoutAsked n = cond (ltb mostLent n) entry.Unknown (entry.Put (Ask (question.Readout n)))
+
+-- begin, commit, abandon DOOR; shut LOCK; archive, log, audit I; tick N; readout LEN
 unfoldable pub withOne : List ℕ → ℕ → Entry
 withOne w n =
     cond (sameB w (bytes "begin")) (entry.Put (Call n Begin))
@@ -59,7 +65,8 @@ withOne w n =
     (cond (sameB w (bytes "log")) (entry.Put (Ask (question.Log n)))
     (cond (sameB w (bytes "audit")) (entry.Put (Ask (question.Audit n)))
     (cond (sameB w (bytes "tick")) (entry.Put (Tick n))
-    entry.Unknown)))))))
+    (cond (sameB w (bytes "readout")) (readoutAsked n)
+    entry.Unknown))))))))
 
 unfoldable pub oneOr : List ℕ → Number → Entry
 oneOr w number.NotOne = entry.Unknown

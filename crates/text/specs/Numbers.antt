@@ -27,7 +27,8 @@ use Rattle.text.specs.declared.numbers.ComputedReading.{ComputedReading}
 use Rattle.text.specs.declared.numbers.ComputedReading.the-variants as computedReading
 use Rattle.text.specs.declared.numbers.Wanted.{Wanted}
 use Rattle.text.specs.declared.numbers.Wanted.the-variants as wanted
-use Rattle.text.specs.Words.{bytes, sameB}
+use Rattle.spelling.specs.Spelling.{bytes}
+use Rattle.text.specs.Words.{sameB}
 
 -- ---- numbers
 

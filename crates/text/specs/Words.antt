@@ -2,17 +2,11 @@
 -- Assumes nothing.
 use Prim.Native.Nat.{ℕ, zero, suc, _+_, _-_, _≤_}
 use Prim.Native.Char.{code as byte}
-use Prim.Native.String.{String, [] as empty, _∷_ as _then_}
 use mathlib.Core.Path.{_≡_}
 use mathlib.Core.Bool.{Bool, true, false, cond, _&&_}
 use mathlib.Core.List.{List, [], _∷_}
 use lib.Dec.{ltb, eqb}
 use lib.ListN.{length, take, drop}
-
--- the bytes of a text of plain characters, one byte each
-abbrev pub bytes : String → List ℕ
-bytes empty = []
-bytes (c then s) = byte c ∷ bytes s
 
 abbrev pub space : ℕ
 space = byte " "
@@ -54,7 +48,7 @@ sameB (a ∷ as₁) (b ∷ bs) = eqb a b && sameB as₁ bs
 
 -- how many bytes of it decide its answer: one more than a command may have (proved in proofs/Cut.antt)
 abbrev pub deciding : ℕ
-deciding = 201
+deciding = 501
 
 unfoldable pub keptOf : ℕ → ℕ
 keptOf n = cond (ltb n deciding) n deciding

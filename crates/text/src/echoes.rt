@@ -1,18 +1,25 @@
 // What is said, written as a line. Each function puts its text at a place of `out` and answers the place after it.
-use crate::words::LETTERS;
 use crate::words::LINE_FEED;
 use commands::Echo;
 use commands::Given;
+use commands::Readout;
 use commands::Reply;
 ghost use mathlib.Core.Path.{_≡_};
 ghost use mathlib.Core.List.{[], _∷_};
-ghost use Prim.Native.Nat.{_+_, _≤_, _<_};
-ghost use lib.ListN.{length};
+ghost use Prim.Native.Nat.{_+_, _*_, _≤_, _<_, min};
+ghost use lib.ListN.{length, replicate};
 ghost use lib.IntN.{natAbs};
-ghost use Rattle.text.specs.Echoes.{Put, glyph, digits, places, decimal, spaced, flag, signed, bitsOf, valueWords, joined, flagWords, numberWords, archiveWords, logWords, auditWords, counterWords, lampWords, momentWords, emittedWords, outputWords, outputsWords, givenWords, saidText, unknownText, textFor};
+ghost use Rattle.spelling.specs.Spelling.{Put, digits};
+ghost use Rattle.text.specs.Echoes.{places, decimal, spaced, flag, signed, bitsOf, valueWords, joined, flagWords, numberWords, archiveWords, logWords, auditWords, counterWords, lampWords, momentWords, emittedWords, outputWords, outputsWords, hexed, unwritten, mostLent, readoutWords, givenWords, saidText, unknownText, textFor};
 
-// Room for any line. The longest tells of the outputs: a number, and twelve numbers after it, each of at most 20 digits after a space.
-pub const ROOM: usize = 288;
+// Room for any line. The longest tells of a readout: a number of at most 20 digits, a space, and two digits for each byte of the longest buffer that is lent.
+pub const ROOM: usize = 422;
+
+// The buffer that is lent for a readout: each of its bytes, and the most that it may have.
+
+const UNWRITTEN: u8 = 0xaa;
+
+pub const MOST_LENT: usize = 200;
 
 fn put_byte(out: &mut [u8], at: usize, b: u8) -> usize
     requires { ⌜ at < length (now out) ⌝ }
@@ -20,17 +27,6 @@ fn put_byte(out: &mut [u8], at: usize, b: u8) -> usize
 {
     out[at] = b;
     at + 1
-}
-
-fn glyph_of(d: u64) -> u8
-    requires { ⌜ d < 16 ⌝ }
-    ensures { λ r. ⌜ r ≡ glyph d ⌝ }
-{
-    if d < 10 {
-        b'0' + d as u8
-    } else {
-        LETTERS + d as u8
-    }
 }
 
 // How many decimal digits a number has.
@@ -49,19 +45,14 @@ fn places_of(n: u64) -> usize
     k
 }
 
-// Puts the last k digits of a number, beginning with the last.
+// Puts the last k digits of a number.
 fn put_digits(out: &mut [u8], at: usize, base: u64, k: usize, n: u64) -> usize
     requires { ⌜ (at + k ≤ length (now out)) × ((1 < base) × (base ≤ 16)) ⌝ }
     ensures { λ r. ⌜ Put k (now (out .entry)) (now (out .exit)) at r (digits base k n) ⌝ }
 {
-    let mut i = k;
-    let mut rest = n;
-    while 0 < i {
-        i -= 1;
-        out[at + i] = glyph_of(rest % base);
-        rest = rest / base;
-    }
-    at + k
+    let next = at + k;
+    spelling::digits_into(&mut out[at..next], base, n);
+    next
 }
 
 // ---- words, each after a space
@@ -270,11 +261,62 @@ fn put_outputs(out: &mut [u8], at: usize, all: outputs::AllShown) -> usize
     put_output(out, fourth, four)
 }
 
+fn put_pair(out: &mut [u8], at: usize, b: u8) -> usize
+    requires { ⌜ at + 2 ≤ length (now out) ⌝ }
+    ensures { λ r. ⌜ Put 2 (now (out .entry)) (now (out .exit)) at r (digits 16 2 b) ⌝ }
+{
+    put_digits(out, at, 16, 2, b as u64)
+}
+
+// Two digits a byte.
+fn put_hex(out: &mut [u8], at: usize, part: &[u8]) -> usize
+    requires { ⌜ at + length (now part) * 2 ≤ length (now out) ⌝ }
+    ensures { λ r. ⌜ Put (length (now (part .entry)) * 2) (now (out .entry)) (now (out .exit)) at r (hexed (now (part .entry))) ⌝ }
+{
+    let mut next = at;
+    let mut i: usize = 0;
+    while i < part.len() {
+        let b = part[i];
+        next = put_pair(out, next, b);
+        i += 1;
+    }
+    next
+}
+
+fn lent_by(room: u64) -> usize
+    ensures { λ r. ⌜ r ≡ min room mostLent ⌝ }
+{
+    if room < MOST_LENT as u64 {
+        room as usize
+    } else {
+        MOST_LENT
+    }
+}
+
+fn lent_buffer() -> [u8; MOST_LENT]
+    ensures { λ r. ⌜ r ≡ replicate mostLent unwritten ⌝ }
+{
+    [UNWRITTEN; MOST_LENT]
+}
+
+// The whole buffer, with the message in it.
+fn put_readout(out: &mut [u8], at: usize, x: Readout) -> usize
+    requires { ⌜ at + 401 ≤ length (now out) ⌝ }
+    ensures { λ r. ⌜ Put 401 (now (out .entry)) (now (out .exit)) at r (joined (readoutWords x)) ⌝ }
+{
+    let mut buffer = lent_buffer();
+    let n = lent_by(x.room);
+    let values = x.values;
+    message::write(values, &mut buffer[..n]);
+    let next = put_byte(out, at, b' ');
+    put_hex(out, next, &buffer[..n])
+}
+
 // ---- lines
 
 fn put_given(out: &mut [u8], at: usize, g: Given) -> usize
-    requires { ⌜ at + 252 ≤ length (now out) ⌝ }
-    ensures { λ r. ⌜ Put 252 (now (out .entry)) (now (out .exit)) at r (joined (givenWords g)) ⌝ }
+    requires { ⌜ at + 401 ≤ length (now out) ⌝ }
+    ensures { λ r. ⌜ Put 401 (now (out .entry)) (now (out .exit)) at r (joined (givenWords g)) ⌝ }
 {
     match g {
         Given::Nothing => at,
@@ -282,6 +324,7 @@ fn put_given(out: &mut [u8], at: usize, g: Given) -> usize
         Given::Report(m) => put_moment(out, at, m),
         Given::Emitted(e) => put_emitted(out, at, e),
         Given::Outputs(all) => put_outputs(out, at, all),
+        Given::Readout(x) => put_readout(out, at, x),
         Given::Archive(l) => put_archive(out, at, l),
         Given::Log(l) => put_log(out, at, l),
         Given::Audit(l) => put_audit(out, at, l),
@@ -289,8 +332,8 @@ fn put_given(out: &mut [u8], at: usize, g: Given) -> usize
 }
 
 fn said_line(out: &mut [u8], at: usize, reply: Reply) -> usize
-    requires { ⌜ at + 288 ≤ length (now out) ⌝ }
-    ensures { λ r. ⌜ Put 288 (now (out .entry)) (now (out .exit)) at r (saidText reply) ⌝ }
+    requires { ⌜ at + 422 ≤ length (now out) ⌝ }
+    ensures { λ r. ⌜ Put 422 (now (out .entry)) (now (out .exit)) at r (saidText reply) ⌝ }
 {
     let n = reply.number;
     let given = reply.given;
@@ -301,8 +344,8 @@ fn said_line(out: &mut [u8], at: usize, reply: Reply) -> usize
 }
 
 fn unknown_line(out: &mut [u8], at: usize) -> usize
-    requires { ⌜ at + 288 ≤ length (now out) ⌝ }
-    ensures { λ r. ⌜ Put 288 (now (out .entry)) (now (out .exit)) at r unknownText ⌝ }
+    requires { ⌜ at + 422 ≤ length (now out) ⌝ }
+    ensures { λ r. ⌜ Put 422 (now (out .entry)) (now (out .exit)) at r unknownText ⌝ }
 {
     let next = put_byte(out, at, b'?');
     put_byte(out, next, LINE_FEED)
@@ -310,7 +353,7 @@ fn unknown_line(out: &mut [u8], at: usize) -> usize
 
 // Puts nothing if there is less than ROOM left.
 pub fn echo_line(out: &mut [u8], at: usize, echo: Echo) -> usize
-    ensures { λ r. ⌜ Put 288 (now (out .entry)) (now (out .exit)) at r (textFor (now (out .entry)) at echo) ⌝ }
+    ensures { λ r. ⌜ Put 422 (now (out .entry)) (now (out .exit)) at r (textFor (now (out .entry)) at echo) ⌝ }
 {
     if out.len() < at {
         return at;

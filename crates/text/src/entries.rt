@@ -1,4 +1,5 @@
 // A line read as an entry. Its first word and how many words it has say which entry; the other words are numbers, readings or a value.
+use crate::echoes::MOST_LENT;
 use crate::numbers::Code;
 use crate::numbers::ComputedReading;
 use crate::numbers::Number;
@@ -20,7 +21,7 @@ use commands::Question;
 ghost use mathlib.Core.Path.{_≡_};
 ghost use Rattle.text.specs.Words.{wordBetween};
 ghost use Rattle.text.specs.Numbers.{numberIn, readingOf};
-ghost use Rattle.text.specs.Entries.{isQuiet, alone, withOne, oneOr, openBy, withTwo, twoOr, startBy, withThree, threeOr, withValue, valueOr, withReadings, readingsOr, entryIn, entryOf};
+ghost use Rattle.text.specs.Entries.{isQuiet, alone, readoutAsked, withOne, oneOr, openBy, withTwo, twoOr, startBy, withThree, threeOr, withValue, valueOr, withReadings, readingsOr, entryIn, entryOf};
 
 // An empty line, or one that begins with `#`, gets no answer.
 fn is_quiet(line: &[u8]) -> bool
@@ -49,6 +50,17 @@ fn alone(w: &[u8]) -> Entry
     Entry::Unknown
 }
 
+// The bench has no longer buffer to lend.
+fn readout_asked(n: u64) -> Entry
+    ensures { λ r. ⌜ r ≡ readoutAsked n ⌝ }
+{
+    let long = (MOST_LENT as u64) < n;
+    if long {
+        return Entry::Unknown;
+    }
+    Entry::Put(Command::Ask(Question::Readout(n)))
+}
+
 fn with_one(w: &[u8], n: u64) -> Entry
     ensures { λ r. ⌜ r ≡ withOne (now (w .entry)) n ⌝ }
 {
@@ -75,6 +87,9 @@ fn with_one(w: &[u8], n: u64) -> Entry
     }
     if same(w, b"tick") {
         return Entry::Put(Command::Tick(n));
+    }
+    if same(w, b"readout") {
+        return readout_asked(n);
     }
     Entry::Unknown
 }

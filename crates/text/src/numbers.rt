@@ -1,5 +1,4 @@
 // A word read as a number, a reading or a value. `NotOne` means that the word is not what was asked for.
-use crate::words::LETTERS;
 ghost use mathlib.Core.Path.{_≡_};
 ghost use Prim.Native.Nat.{_<_, _≤_};
 ghost use lib.Ieee.{ofBits, binary64};
@@ -70,7 +69,7 @@ fn digit_of(b: u8) -> u64
         return NO_DIGIT;
     }
     if b < PAST_F {
-        return (b - LETTERS) as u64;
+        return (b - spelling::LETTERS) as u64;
     }
     NO_DIGIT
 }

@@ -5,11 +5,8 @@ ghost use Rattle.text.specs.Words.{firstOf, afterWord, wordBetween, same
 // What ends a line.
 pub const LINE_FEED: u8 = b'\n';
 
-// Added to a digit from 10 to 15 it gives the letter.
-pub const LETTERS: u8 = b'a' - 10;
-
 // A longer line is no command.
-pub const LONGEST: usize = 200;
+pub const LONGEST: usize = 500;
 
 // How many bytes come before the first b; all of them if there is no b.
 pub fn first_of(s: &[u8], b: u8) -> usize

@@ -3,6 +3,7 @@
 mod amounts;
 mod factors;
 mod measures;
+mod messages;
 mod months;
 mod pulses;
 mod stores;
@@ -20,4 +21,5 @@ fn main() {
     table::run();
     stores::run();
     pulses::run();
+    messages::run();
 }

@@ -47,6 +47,7 @@ impl Teller {
                 seen.push(self.say(&format!("{book} {index}")));
             }
         }
+        seen.push(self.say("readout 200"));
         seen.push(self.say("outputs"));
         seen
     }

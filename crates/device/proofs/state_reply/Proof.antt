@@ -17,6 +17,12 @@ enum-told-2 c = search needs
 outputs-by-requires : tie.Need-outputs-by-requires
 outputs-by-requires c κs = search needs
 
+enum-known-q : tie.Need-enum-known-q
+enum-known-q c = search needs
+
+readout-by-requires : tie.Need-readout-by-requires
+readout-by-requires c κs = search needs
+
 enum-told-3 : tie.Need-enum-told-3
 enum-told-3 c = search needs
 
@@ -45,15 +51,39 @@ returns-2 c = simp (c .outputs-by .ensures, c .before .enum-told2 .given .1)
 
 returns-3 : tie.Need-returns-3
 unfolding stateReply
-returns-3 c = simp (c .plain-reply .ensures, c .before .enum-told3 .given .1)
+returns-3 c = simp (c .readout-by .ensures, c .before .before .q .given .1)
 
 returns-4 : tie.Need-returns-4
 unfolding stateReply
-returns-4 c = simp (c .plain-reply2 .ensures, c .before .enum-told4 .given .1)
+returns-4 c = simp (c .plain-reply .ensures, c .before .enum-told3 .given .1)
 
 returns-5 : tie.Need-returns-5
 unfolding stateReply
-returns-5 c = simp (c .plain-reply3 .ensures, c .before .enum-told5 .given .1)
+returns-5 c = simp (c .plain-reply2 .ensures, c .before .enum-told4 .given .1)
+
+returns-6 : tie.Need-returns-6
+unfolding stateReply
+returns-6 c = simp (c .plain-reply3 .ensures, c .before .enum-told5 .given .1)
 
 pub state-reply-spec : {M : Type 1} → statement M
-state-reply-spec = tie.close (tie.spec enum-told report-by-requires enum-told-2 outputs-by-requires enum-told-3 plain-reply-requires enum-told-4 plain-reply-requires-2 enum-told-5 plain-reply-requires-3 returns returns-2 returns-3 returns-4 returns-5)
+state-reply-spec =
+    tie.close
+    (tie.spec
+    enum-told
+    report-by-requires
+    enum-told-2
+    outputs-by-requires
+    enum-known-q
+    readout-by-requires
+    enum-told-3
+    plain-reply-requires
+    enum-told-4
+    plain-reply-requires-2
+    enum-told-5
+    plain-reply-requires-3
+    returns
+    returns-2
+    returns-3
+    returns-4
+    returns-5
+    returns-6)

@@ -5,14 +5,15 @@ use native.Mathlib.Omega.{arith}
 use denote.Ref.{now}
 use Rattle.commands.specs.declared.Echo.the-variants as echo
 use Rattle.text.specs.Echoes.{echoText}
-use Rattle.text.proofs.Puts.{retext, nothing-put, little-room, room-for}
+use Rattle.spelling.proofs.Puts.{retext, nothing-put}
+use Rattle.text.proofs.Puts.{little-room, room-for}
 use Rattle.text.proofs.echoes.echo_line.Statement.{statement}
 use Rattle.text.proofs.echoes.echo_line.Tie as tie
 
 returns : tie.Need-returns
 returns c =
     let a = c .before .before .args in
-    retext (little-room (now (a .out)) (a .at) (a .echo) (omega arith)) (nothing-put 288 (now (a .out)) (a .at))
+    retext (little-room (now (a .out)) (a .at) (a .echo) (omega arith)) (nothing-put 422 (now (a .out)) (a .at))
 
 sub-if2 : tie.Need-sub-if2
 sub-if2 c = search needs
@@ -20,7 +21,7 @@ sub-if2 c = search needs
 returns-2 : tie.Need-returns-2
 returns-2 c =
     let a = c .before .before .before .args in
-    retext (little-room (now (a .out)) (a .at) (a .echo) (omega arith)) (nothing-put 288 (now (a .out)) (a .at))
+    retext (little-room (now (a .out)) (a .at) (a .echo) (omega arith)) (nothing-put 422 (now (a .out)) (a .at))
 
 enum-told : tie.Need-enum-told
 enum-told c = search needs
@@ -41,7 +42,7 @@ returns-3 : tie.Need-returns-3
 unfolding echoText
 returns-3 c =
     let a = c .before .before .before .before .before .args in
-    retext (room-for (now (a .out)) (a .at) (a .echo) echo.Nothing (omega arith) (c .enum-told .given .1)) (nothing-put 288 (now (a .out)) (a .at))
+    retext (room-for (now (a .out)) (a .at) (a .echo) echo.Nothing (omega arith) (c .enum-told .given .1)) (nothing-put 422 (now (a .out)) (a .at))
 
 same-length : tie.Need-same-length
 same-length c = search needs

@@ -2,7 +2,7 @@
 -- Assumes nothing.
 use borrow.Author.Needs.{needs}
 use denote.Ref.{now}
-use Rattle.text.proofs.Puts.{byte}
+use Rattle.spelling.proofs.Puts.{byte}
 use Rattle.text.proofs.echoes.put_byte.Statement.{statement}
 use Rattle.text.proofs.echoes.put_byte.Tie as tie
 

@@ -2,7 +2,7 @@
 -- Assumes nothing.
 use borrow.Author.Needs.{needs}
 use native.Mathlib.Omega.{arith}
-use Rattle.text.proofs.Puts.{two}
+use Rattle.spelling.proofs.Puts.{two}
 use Rattle.text.proofs.echoes.put_flag.Statement.{statement}
 use Rattle.text.proofs.echoes.put_flag.Tie as tie
 

@@ -3,7 +3,8 @@
 use borrow.Author.Needs.{needs}
 use native.Mathlib.Omega.{arith}
 use Rattle.text.specs.Echoes.{decimal}
-use Rattle.text.proofs.Puts.{places-most, two}
+use Rattle.spelling.proofs.Puts.{two}
+use Rattle.text.proofs.Puts.{places-most}
 use Rattle.text.proofs.echoes.put_number.Statement.{statement}
 use Rattle.text.proofs.echoes.put_number.Tie as tie
 

@@ -9,7 +9,8 @@ use lib.IntN.{ℤ, pos, natAbs}
 use lib.Signed.{ltZ}
 use mir.Facts.{toZ-ofZ}
 use Rattle.text.specs.Echoes.{places, decimal}
-use Rattle.text.proofs.Puts.{places-most, two, looser, retext, below-zero, not-below}
+use Rattle.spelling.proofs.Puts.{two, looser, retext}
+use Rattle.text.proofs.Puts.{places-most, below-zero, not-below}
 use Rattle.text.proofs.echoes.put_signed.Statement.{statement}
 use Rattle.text.proofs.echoes.put_signed.Tie as tie
 

@@ -8,7 +8,8 @@ use mir.Syntax.{w64}
 use mir.Val.{toZ, ofZ}
 use mir.Facts.{toZ-ofZ}
 use Rattle.text.specs.Echoes.{spaced, signed}
-use Rattle.text.proofs.Puts.{two, retext, whole-text, coefficient-text}
+use Rattle.spelling.proofs.Puts.{two, retext}
+use Rattle.text.proofs.Puts.{whole-text, coefficient-text}
 use Rattle.text.proofs.echoes.put_value.Statement.{statement}
 use Rattle.text.proofs.echoes.put_value.Tie as tie
 

@@ -3,7 +3,8 @@
 use borrow.Author.Needs.{needs}
 use native.Mathlib.Omega.{arith}
 use Rattle.text.specs.Echoes.{saidText, decimal}
-use Rattle.text.proofs.Puts.{two, places-most}
+use Rattle.spelling.proofs.Puts.{two}
+use Rattle.text.proofs.Puts.{places-most}
 use Rattle.text.proofs.echoes.said_line.Statement.{statement}
 use Rattle.text.proofs.echoes.said_line.Tie as tie
 
@@ -26,9 +27,9 @@ returns : tie.Need-returns
 unfolding saidText decimal
 returns c =
     let k = c .before .before .before .before .before .before .before .before .before .before .before .before .places-of in
-    two 288 (omega (arith, k .ensures, places-most (c .before .before .before .before .before .before .before .before .before .before .before .before .before .before .args .reply .number)))
+    two 422 (omega (arith, k .ensures, places-most (c .before .before .before .before .before .before .before .before .before .before .before .before .before .before .args .reply .number)))
     (rw (k .ensures) at (c .before .before .before .before .before .before .before .before .before .before .put-digits .ensures))
-    (two 253 (omega arith) (c .before .before .before .before .before .before .put-given .ensures) (c .before .before .put-byte .ensures))
+    (two 402 (omega arith) (c .before .before .before .before .before .before .put-given .ensures) (c .before .before .put-byte .ensures))
 
 pub said-line-spec : {M : Type 1} → statement M
 said-line-spec = tie.close (tie.spec places-of-requires put-digits-requires put-given-requires put-byte-requires same-length returns)

@@ -1,10 +1,10 @@
--- `text::echoes::glyph_of` meets its contract.
+-- `spelling::glyph_of` meets its contract.
 -- Assumes nothing.
 use borrow.Author.Needs.{needs}
 use borrow.Author.Tests.{lt-ltb, le-ltb}
-use Rattle.text.specs.Echoes.{glyph}
-use Rattle.text.proofs.echoes.glyph_of.Statement.{statement}
-use Rattle.text.proofs.echoes.glyph_of.Tie as tie
+use Rattle.spelling.specs.Spelling.{glyph}
+use Rattle.spelling.proofs.glyph_of.Statement.{statement}
+use Rattle.spelling.proofs.glyph_of.Tie as tie
 
 cast-result : tie.Need-cast-result
 cast-result c = search needs

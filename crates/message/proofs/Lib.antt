@@ -1,0 +1,4 @@
+-- Laws of the message.
+pub mod Check
+pub mod Laws
+pub mod Whole

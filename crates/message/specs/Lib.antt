@@ -1,0 +1,2 @@
+-- The data message of a readout.
+pub mod Message

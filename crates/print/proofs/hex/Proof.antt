@@ -1,0 +1,37 @@
+-- `print::hex` meets its contract: it ends.
+-- Assumes nothing.
+use borrow.Author.Needs.{needs}
+use Prim.Native.Nat.{_-_, _≤_}
+use lib.ListN.{length}
+use Rattle.print.proofs.hex.Statement.{statement}
+use Rattle.print.proofs.hex.Tie as tie
+
+abbrev Inv-loop : tie.InvT-loop
+Inv-loop s i₀ i = i ≤ length s
+
+abbrev μ-loop : tie.MeasureT-loop
+μ-loop s i₀ i = length s - i
+
+loop-holds : tie.Need-loop-holds Inv-loop μ-loop
+loop-holds c = search needs
+
+shared-slice-read-pair : tie.Need-shared-slice-read-pair Inv-loop μ-loop
+shared-slice-read-pair c = search needs
+
+pair-requires : tie.Need-pair-requires Inv-loop μ-loop
+pair-requires c κs = search needs
+
+add-i : tie.Need-add-i Inv-loop μ-loop
+add-i c = search needs
+
+loop-less : tie.Need-loop-less Inv-loop μ-loop
+loop-less c = search needs
+
+loop-again : tie.Need-loop-again Inv-loop μ-loop
+loop-again c = search needs
+
+returns : tie.Need-returns Inv-loop μ-loop
+returns c = search needs
+
+pub hex-spec : {M : Type 1} → statement M
+hex-spec = tie.close (tie.spec Inv-loop μ-loop loop-holds shared-slice-read-pair pair-requires add-i loop-less loop-again returns)

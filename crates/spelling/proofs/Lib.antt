@@ -1,0 +1,4 @@
+-- Laws of texts and digits put into bytes.
+pub mod Puts
+pub mod Spelled
+pub mod Lent

@@ -1,0 +1,2 @@
+-- How texts and digits are put into bytes.
+pub mod Spelling
