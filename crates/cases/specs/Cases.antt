@@ -464,9 +464,9 @@ table =
     -- Document 02, Five. Vb 1,863.55 litres, VbD 931.78, VbT 2,795.33; Vm 1,000, VmD 1,000, VmT 2,000. Cut off downwards they are 1,863, 931 and 2,795: the kept total, and not
     -- 1,863 + 931 = 2,794
     ∷ row (Request 5) (readoutCase factoryDevice (bothSides ++ (Ask (question.Readout 156) ∷ [])) (0 ∷ 0 ∷ 0 ∷ []) (1863 ∷ 931 ∷ 2795 ∷ 1000 ∷ 1000 ∷ 2000 ∷ []))
-    -- The check character by hand. Characters that stand in all six lines, or six times in each, cancel in pairs: `:`, `3`, `0`, `(`, `.`, `*`, `m`, `3`, `)`, CR, LF, and the high
-    -- halves of the 72 digits. The ends of the addresses, 0, 1, 2 twice, cancel too. Left are `2` three times and `4` three times, 32 xor 34 = 06; `!`, CR, LF, ETX, 21 xor 0d xor 0a xor
-    -- 03 = 25; together 23; and the digits themselves: 1 8 6 3 give c, 9 3 1 give b, 2 7 9 5 give 9, 1, 1 and 2; c xor b xor 9 xor 1 xor 1 xor 2 = c. 23 xor 0c = 2f, which is `/`
+    -- The check character by hand. What stands in all six lines cancels in pairs: `:`, `3`, `0`, `(`, `.`, `*`, `m`, `3`, `)`, CR, LF. So do the high halves of the 72 digits, and the
+    -- ends of the addresses, which are 0, 1 and 2 twice. Left are `2` three times and `4` three times, 32 xor 34 = 06; `!`, CR, LF, ETX, 21 xor 0d xor 0a xor 03 = 25; together 23;
+    -- and the digits themselves: 1 8 6 3 give c, 9 3 1 give b, 2 7 9 5 give 9, and then 1, 1 and 2; c xor b xor 9 xor 1 xor 1 xor 2 = c. 23 xor 0c = 2f, which is `/`
     ∷ row (Request 5) (checkCase (litres 1863 931 2795 1000 1000 2000) 47)
     ∷ row (Request 5) (bufferCase factoryDevice bothSides (0 ∷ 0 ∷ []) (replicate 156 170) itsMessage)
     -- no digit but 0: 23, which is `#`. 72 nines cancel. One 1: 22. The digits 1 to 9, 0, 1, 2 give 2: 21

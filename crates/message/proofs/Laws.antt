@@ -1,10 +1,10 @@
 -- What holds of every message: its length, its characters, and that it says its six values and no others.
 -- Assumes nothing.
-use Prim.Native.Nat.{ℕ, zero, suc, _+_, _*_, _/_, _%_, _^_, _≤_, _<_}
+use Prim.Native.Nat.{ℕ, zero, suc, _+_, _/_, _%_, _^_, _≤_, _<_}
 use native.Mathlib.Nat.{pow-suc, mod-lt, mod-one}
 use native.Mathlib.Omega.{arith}
 use mathlib.Core.Path.{_≡_, refl, sym, ap, _∙_}
-use mathlib.Core.Bool.{Bool, true, false, cond, _&&_}
+use mathlib.Core.Bool.{Bool, true, false, _&&_}
 use mathlib.Core.List.{List, [], _∷_, _++_, head-eq-of-cons-eq, tail-eq-of-cons-eq}
 use lib.Arith.{mod-mul}
 use lib.Dec.{ltb}
@@ -150,8 +150,8 @@ pub length-written : (v : Values) (old : List ℕ) → length (written v old) �
 unfolding written
 length-written v old = by-test (ltb (length old) size) refl
   where
-    by-test : (t : Bool) → ltb (length old) size ≡ t → length (cond t old (message v ++ drop size old)) ≡ length old
-    by-test true e = refl
+    by-test : (t : Bool) → ltb (length old) size ≡ t → length (written v old) ≡ length old
+    by-test true e = rw e
     by-test false e =
         let h : size ≤ length old = ltb-false (length old) size e in
-        length-append (message v) (drop size old) ∙ omega (arith, length-message v, length-drop size old)
+        rw e (length-append (message v) (drop size old) ∙ omega (arith, length-message v, length-drop size old))

@@ -1,11 +1,11 @@
 -- The whole message in a buffer: STX, the body and the check, one after another.
 -- Assumes nothing.
-use mathlib.Core.Path.{_≡_, sym, ap, _∙_}
-use mathlib.Core.List.{List, [], _∷_, _++_}
-use Prim.Native.Nat.{ℕ, _+_, _-_, _≤_, _<_}
+use mathlib.Core.Path.{_≡_, ap, _∙_}
+use mathlib.Core.List.{List}
+use Prim.Native.Nat.{ℕ, _≤_, _<_}
 use native.Mathlib.Omega.{arith}
 use borrow.Author.Tests.{le-ltb, lt-ltb}
-use lib.ListN.{length, take, drop, set, length-set, length-append, length-take}
+use lib.ListN.{length, take, drop, set, length-set}
 use Rattle.spelling.specs.Spelling.{Put}
 use Rattle.spelling.proofs.Puts.{byte, two, at-front, next-is, behind-it}
 use Rattle.message.specs.declared.Values.{Values}
