@@ -2,3 +2,4 @@
 pub mod Check
 pub mod Laws
 pub mod Whole
+pub mod Fixed
