@@ -7,11 +7,14 @@ Nothing here comes from the program or from its crates: which states are whole, 
 from documents 01 and 02, the settings from their table (docs/SETTINGS.md). The trials are those of crates/nonsense/src, in the same order. At the end it is asked that every two reasons that can
 hold together were tried together, on each command.
 """
+import re
 import struct
 from copy import deepcopy
 from fractions import Fraction
+from functools import reduce
 from itertools import combinations
 from math import floor, inf, isfinite, nan
+from operator import xor
 
 from settings import OPENING, PAIRS, ROWS
 from vectors import END_OF_TIME, message, month_of
@@ -217,6 +220,7 @@ NUMBER = {
     "large": 14,
     "long": 15,
     "short": 16,
+    "form": 17,
 }
 
 LENT = {
@@ -232,6 +236,9 @@ LENT = {
 
 def reasons(command, s, args, lengths={}):
     """All reasons that apply. `lengths` names the stores that have not their exact length."""
+    if command == "parse":
+        # The reader needs no device: what it is lent are the bytes alone.
+        return ["form"]
     session = lambda: s.doors.get(args[0], Session())
     own = {
         "open": lambda lock, code: {"lock": lock not in (1, 2, 3), "code": lock in (2, 3) and code != s.codes[lock]},
@@ -303,7 +310,7 @@ def typed(command, args):
 
 def line(command, s, args, lengths={}, clause=False, spoken=None):
     # Where only a clause of "whole" is tried, what else applies does not matter: 1 comes first.
-    why = ["not-whole"] if clause and not whole(s) else reasons(command, s, args, lengths)
+    why = ["not-whole"] if clause and command != "parse" and not whole(s) else reasons(command, s, args, lengths)
     tried.add((command, tuple(why)))
     number = NUMBER[why[0]] if why else 0
     ends = number in (10, 11, 12) and command == "commit"
@@ -339,7 +346,7 @@ ALL = ALL + each("open", (0, 1234), (4, 0), (MOST, 0), (2, 0), (3, 1234)) + each
 ALL = ALL + each("log", (250,), (MOST,)) + each("archive", (15,), (MOST,)) + each("audit", (12,), (MOST,))
 ALL = ALL + each("cycle", (EARLY, 10), (SOON, 600), (LATE, 10), (EARLY, 601), (SOON, 601), (LATE, 601), (EARLY, MOST), (SOON, MOST), (MOST, MOST))
 ALL = ALL + each("tick", (0,), (600,), (601,), (MOST,))
-ALL = ALL + each("readout", (0,), (155,), (157,), (200,))
+ALL = ALL + each("readout", (0,), (155,), (157,), (200,)) + each("parse", ("0203",))
 ALL = ALL + each("begin", (0,), (1,), (3,)) + each("abandon", (0,), (2,), (3,)) + each("commit", (0,), (2,), (3,))
 ALL = ALL + each("read", (0, 1), (3, 1), (1, 0), (1, NONE), (3, NONE), (2, NONE), (2, 1), (1, CHOICE), (1, LAST), (2, LAST))
 ALL = ALL + each("write", (0, 1, 1), (3, 11, 1), (1, NONE, 1), (1, 0, 1), (2, NONE, 1), (2, 1, 1), (2, 11, 1), (1, 1, 1.0), (1, 11, 1))
@@ -596,6 +603,44 @@ def buffers():
             print("  readout into %d: %d %s" % (room, number, after.hex()))
 
 
+# ---- captured messages put to the reader
+
+# A message but for its check, as a pattern: one line for each address, with nine digits and three.
+FORM = re.compile(rb"\x02" + b"".join(rb"%s\(([0-9]{9})\.([0-9]{3})\*m3\)\r\n" % a for a in (b"2:300", b"2:301", b"2:302", b"4:300", b"4:301", b"4:302")) + rb"!\r\n\x03")
+
+
+def parsed(captured):
+    """17 if it is not of the form, its last byte aside; 18 if that byte is not the exclusive-or of what stands between it and STX; else 0 and the litres."""
+    form = FORM.fullmatch(captured[:-1])
+    if not form:
+        return [17]
+    if reduce(xor, captured[1:-1]) != captured[-1]:
+        return [18]
+    parts = form.groups()
+    return [0] + [int(whole + decimals) for whole, decimals in zip(parts[::2], parts[1::2])]
+
+
+FIRST = (0, 1, 2, 154, 155, 156, 157, 158, 181)
+CHANGED = [(0, 3), (1, b"4"), (2, b"."), (5, b"1"), (6, b"["), (7, b" "), (7, b"/"), (7, b":"), (7, 0), (7, 0xB0), (15, b"a"), (16, b","), (19, b")"), (21, b"M"), (22, b"2"), (24, b"\n"), (25, b"\r")]
+CHANGED += [(151, b"?"), (154, 2), (155, 0), (155, 0xFF), (155, b"2"), (155, b"R")]
+EXCHANGED = [(24, 25), (152, 153), (15, 16), (16, 17), (15, 17), (5, 30), (1, 76), (0, 155)]
+
+
+def captured():
+    """Exchanged bytes leave the check character right, unless one of them is outside what is checked."""
+    print("captured messages")
+    whole = message([1_863, 931, 2_795, 123_456_789_012, 10**12 - 1, 0])
+    for n in FIRST:
+        print("  first %d:" % n, *parsed((whole + b"\x55" * 25)[:n]))
+    for i, b in CHANGED:
+        b = b if isinstance(b, int) else b[0]
+        print("  byte %d %d:" % (i, b), *parsed(whole[:i] + bytes([b]) + whole[i + 1 :]))
+    for i, j in EXCHANGED:
+        bytes_ = bytearray(whole)
+        bytes_[i], bytes_[j] = bytes_[j], bytes_[i]
+        print("  exchanged %d %d:" % (i, j), *parsed(bytes(bytes_)))
+
+
 # ---- every two reasons that can hold together
 
 REASONS = {
@@ -639,4 +684,5 @@ if __name__ == "__main__":
     lengths()
     order()
     buffers()
+    captured()
     all_tried()

@@ -2,6 +2,8 @@
 
 use crate::device::{ArchiveLine, AuditLine, Cycle, Device, LogLine, Refusal, Report, Value};
 use crate::output::{OutputReport, OUTPUTS};
+use crate::reader::parse;
+use crate::readout::Values;
 
 /// The longest buffer that is lent to a readout.
 pub const MOST_LENT: usize = 200;
@@ -9,8 +11,9 @@ pub const MOST_LENT: usize = 200;
 /// so that what was written can be told from what was not.
 const LENT_BYTE: u8 = 0xaa;
 
-/// What a line asks for. The length of a readout is that of the lent buffer.
-#[derive(Clone, Copy, Debug, PartialEq)]
+/// What a line asks for. The length of a readout is that of the lent buffer, and
+/// the message of a parse is any bytes.
+#[derive(Clone, Debug, PartialEq)]
 pub enum Command {
     Start { time: u64, code2: u32, code3: u32 },
     Cycle(Cycle),
@@ -29,6 +32,7 @@ pub enum Command {
     Archive { index: u64 },
     Log { index: u64 },
     Audit { index: u64 },
+    Parse { message: Vec<u8> },
 }
 
 /// What a command that was done gives back.
@@ -45,11 +49,13 @@ pub enum Done {
     Archive(ArchiveLine),
     Log(LogLine),
     Audit(AuditLine),
+    /// What the reader found in a message.
+    Parsed(Values),
 }
 
 pub type Answer = Result<Done, Refusal>;
 
-/// Puts one command to the device.
+/// Puts one command to the device, or to the reader, which needs no device.
 pub fn obey(device: &mut Device, command: &Command) -> Answer {
     let nothing = |()| Done::Nothing;
     match *command {
@@ -73,5 +79,6 @@ pub fn obey(device: &mut Device, command: &Command) -> Answer {
         Command::Archive { index } => device.archive(index).map(Done::Archive),
         Command::Log { index } => device.log(index).map(Done::Log),
         Command::Audit { index } => device.audit(index).map(Done::Audit),
+        Command::Parse { ref message } => parse(message).map(Done::Parsed),
     }
 }

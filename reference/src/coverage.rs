@@ -6,22 +6,24 @@ use std::fmt::Write;
 use crate::calendar::{first_day, month_of_day, SECONDS_A_DAY, SIX_O_CLOCK};
 use crate::command::{obey, Command, MOST_LENT};
 use crate::device::{
-    factor, measured_temperature, temperature_float, Cells, Counters, Device, Totals, Value,
-    ALARM_K, ALARM_P, ALARM_T, ARCHIVE_LINES, AUDIT_LINES, FIRST_CHOICE, FIRST_WEIGHT, KELVIN, K_F,
-    LOG_LINES, MD_K, MD_P, MD_T, OUTPUT_ROWS, PB, SETTINGS, TB, T_F, UNITS_A_LITRE, VB_MODULUS,
-    VM_MODULUS,
+    factor, measured_temperature, temperature_float, Cells, Counters, Device, Refusal, Totals,
+    Value, ALARM_K, ALARM_P, ALARM_T, ARCHIVE_LINES, AUDIT_LINES, FIRST_CHOICE, FIRST_WEIGHT,
+    KELVIN, K_F, LOG_LINES, MD_K, MD_P, MD_T, OUTPUT_ROWS, PB, SETTINGS, TB, T_F, UNITS_A_LITRE,
+    VB_MODULUS, VM_MODULUS,
 };
 use crate::lines::{read_line, read_words, unsigned, write_answer, Line, LONGEST_LINE};
 use crate::output::{Output, BUFFER, CHOICES, LOST_MODULUS, OFF, OUTPUTS, TICK_LIMIT};
-use crate::readout::{litres, MESSAGE_LENGTH};
+use crate::reader::parse;
+use crate::readout::{litres, Values, MESSAGE_LENGTH};
 use crate::script::Script;
+use crate::spoilt;
 use crate::table::{Range, Setting, LOCKS, LOCK_SETS, PAGE};
 
 /// The commands, with the answers that can be reached through lines. Refusals
 /// 1 and 14 are not among them: a device that is only given commands stays
 /// whole, and within the ranges of the settings no cycle's amount is a tenth
 /// of 10^17.
-const COMMANDS: [(&str, &[u8]); 17] = [
+const COMMANDS: [(&str, &[u8]); 18] = [
     ("start", &[0, 6]),
     ("cycle", &[0, 5, 6, 7]),
     ("begin", &[0, 2, 3]),
@@ -39,8 +41,9 @@ const COMMANDS: [(&str, &[u8]); 17] = [
     ("tick", &[0, 15]),
     ("outputs", &[0]),
     ("readout", &[0, 16]),
+    ("parse", &[0, 17, 18]),
 ];
-const NUMBERS: usize = 17;
+const NUMBERS: usize = 19;
 
 fn row_of(command: &Command) -> usize {
     match command {
@@ -61,6 +64,7 @@ fn row_of(command: &Command) -> usize {
         Command::Tick { .. } => 14,
         Command::Outputs => 15,
         Command::Readout { .. } => 16,
+        Command::Parse { .. } => 17,
     }
 }
 
@@ -195,9 +199,47 @@ enum Event {
     ReadoutAfterRollover,
     CommandOnLongestLine,
     LineOneTooLong,
+    // These are of request Six.
+    ParsedZeros,
+    ParsedNineDigits,
+    ParsedLargest,
+    ParsedVmSumDiffers,
+    ParsedVbSumDiffers,
+    ParsedOwnReadout,
+    ParseBeforeAnyStart,
+    ParseInFirstSession,
+    ParseInSecondSession,
+    CheckWrong,
+    CheckWrongByOneBit,
+    FormAndCheckWrong,
+    FormWrongCheckRight,
+    ByteChanged,
+    ByteLeftOut,
+    ByteDoubled,
+    LinesExchanged,
+    LineLeftOut,
+    LineDoubled,
+    LargeUnit,
+    EndReversed,
+    BlankForDigit,
+    PointMoved,
+    ByteAfter,
+    BytesAfter,
+    LongestMessage,
+    CutShort,
+    EndsInEtx,
+    SingleByte,
+    RandomBytes,
+    ParseOfNoWord,
+    ParseOfEmptyWord,
+    ParseOfOddDigits,
+    ParseOfLargeDigit,
+    ParseOfOtherCharacter,
+    ParseOfTwoWords,
+    ParseOfByteTooMany,
 }
 
-const EVENTS: [&str; 127] = [
+const EVENTS: [&str; 164] = [
     "pressure alarm came",
     "temperature alarm came",
     "K alarm came",
@@ -325,6 +367,43 @@ const EVENTS: [&str; 127] = [
     "readout directly after a rollover",
     "command on a line of 500 bytes",
     "line of 501 bytes, a command but for its length, answered ?",
+    "message of six zeros read",
+    "message of a value without a leading zero read",
+    "message of the largest value read",
+    "message read whose VmT is not the sum of Vm and VmD",
+    "message read whose VbT is not the sum of Vb and VbD, nor a litre more",
+    "the device's own readout of that moment read back, not six zeros",
+    "message before any start",
+    "message while a session is open at door 1",
+    "message while a session is open at door 2",
+    "wrong check character, all else right, 18",
+    "check character wrong by one bit, all else right, 18",
+    "156 bytes, form and check wrong, 17",
+    "156 bytes, form wrong and check right, 17",
+    "one byte changed, 17",
+    "one byte left out, 17",
+    "one byte doubled, 17",
+    "two lines exchanged, 17",
+    "a line left out, 17",
+    "a line doubled, 17",
+    "an upper-case M in m3, 17",
+    "LF CR for CR LF, 17",
+    "a blank for a digit, 17",
+    "the point moved, 17",
+    "a byte after the check character, 17",
+    "more bytes after the check character, 17",
+    "message of 247 bytes, the most a line has room for, 17",
+    "the front of a message, 17",
+    "155 bytes that end in ETX, 17",
+    "a single byte, 17",
+    "156 random bytes, 17",
+    "parse of no word answered ?",
+    "parse of an empty word answered ?",
+    "parse of an odd number of digits answered ?",
+    "parse of an upper-case digit answered ?",
+    "parse of another character answered ?",
+    "parse of two words answered ?",
+    "parse of 248 bytes, on a line of 502, answered ?",
 ];
 
 /// The event of a gain, by choice; an output that is off has none.
@@ -570,6 +649,7 @@ impl Coverage {
             }
             Command::Tick { named } => self.observe_tick(named, number, before, after),
             Command::Readout { length } => self.observe_readout(length, number, after),
+            Command::Parse { ref message } => self.observe_parse(message, after),
             Command::Commit { door } => {
                 if before.staged.count_ones() == 1 {
                     let row = before.staged.trailing_zeros() as usize;
@@ -737,12 +817,76 @@ impl Coverage {
         self.saw_if(largest >= VM_MODULUS / 10, Event::ReadoutOfNineDigits);
     }
 
+    fn observe_parse(&mut self, message: &[u8], after: &Device) {
+        self.saw_if(after.sessions[0].open, Event::ParseInFirstSession);
+        self.saw_if(after.sessions[1].open, Event::ParseInSecondSession);
+        match parse(message) {
+            Ok(values) => self.observe_parsed(&values, after),
+            Err(Refusal::WrongCheck) => {
+                self.saw(Event::CheckWrong);
+                self.saw_if(spoilt::check_differs_by_one_bit(message), Event::CheckWrongByOneBit);
+            }
+            Err(_) => {
+                self.observe_wrong_form(message);
+                self.observe_wrong_length(message);
+            }
+        }
+    }
+
+    /// What a message that was accepted says.
+    fn observe_parsed(&mut self, values: &Values, after: &Device) {
+        let zeros = *values == [0; 6];
+        self.saw_if(zeros, Event::ParsedZeros);
+        let largest = values.iter().max().unwrap_or(&0);
+        self.saw_if(*largest >= VM_MODULUS / 10, Event::ParsedNineDigits);
+        self.saw_if(*largest == VM_MODULUS - 1, Event::ParsedLargest);
+        let [vb, vb_disturbed, vb_total, vm, vm_disturbed, vm_total] = *values;
+        let sum_differs = (vm + vm_disturbed) % VM_MODULUS != vm_total;
+        self.saw_if(sum_differs, Event::ParsedVmSumDiffers);
+        let sums = [vb + vb_disturbed, vb + vb_disturbed + 1].map(|sum| sum % VM_MODULUS);
+        self.saw_if(!sums.contains(&vb_total), Event::ParsedVbSumDiffers);
+        let own = *values == litres(&after.counters, &after.totals);
+        self.saw_if(own && !zeros, Event::ParsedOwnReadout);
+    }
+
+    /// As many bytes as a message has, and not of the form.
+    fn observe_wrong_form(&mut self, message: &[u8]) {
+        if message.len() != MESSAGE_LENGTH {
+            return;
+        }
+        let fits = spoilt::check_fits(message);
+        self.saw_if(fits, Event::FormWrongCheckRight);
+        self.saw_if(!fits, Event::FormAndCheckWrong);
+        self.saw_if(spoilt::has_byte_changed(message), Event::ByteChanged);
+        self.saw_if(spoilt::has_lines_exchanged(message), Event::LinesExchanged);
+        self.saw_if(spoilt::has_large_unit(message), Event::LargeUnit);
+        self.saw_if(spoilt::has_end_reversed(message), Event::EndReversed);
+        self.saw_if(spoilt::has_blank_for_digit(message), Event::BlankForDigit);
+        self.saw_if(spoilt::has_point_moved(message), Event::PointMoved);
+        self.saw_if(spoilt::is_random(message), Event::RandomBytes);
+    }
+
+    /// More bytes than a message has, or fewer.
+    fn observe_wrong_length(&mut self, message: &[u8]) {
+        self.saw_if(spoilt::has_byte_left_out(message), Event::ByteLeftOut);
+        self.saw_if(spoilt::has_byte_doubled(message), Event::ByteDoubled);
+        self.saw_if(spoilt::has_line_left_out(message), Event::LineLeftOut);
+        self.saw_if(spoilt::has_line_doubled(message), Event::LineDoubled);
+        self.saw_if(spoilt::bytes_after(message) == 1, Event::ByteAfter);
+        self.saw_if(spoilt::bytes_after(message) > 1, Event::BytesAfter);
+        self.saw_if(message.len() == spoilt::LONGEST_MESSAGE, Event::LongestMessage);
+        self.saw_if(spoilt::is_cut_short(message), Event::CutShort);
+        self.saw_if(spoilt::ends_in_etx(message), Event::EndsInEtx);
+        self.saw_if(message.len() == 1, Event::SingleByte);
+    }
+
     /// Events of two commands, one directly after the other.
     fn observe_order(&mut self, last: &Link, next: &Link) {
         self.saw_if(last.readout && next.rolled, Event::ReadoutBeforeRollover);
         self.saw_if(last.rolled && next.readout, Event::ReadoutAfterRollover);
         self.saw_if(last.cycle && next.readout, Event::ReadoutAfterCycle);
         self.saw_if(next.readout && !next.started, Event::ReadoutBeforeAnyStart);
+        self.saw_if(next.parse && !next.started, Event::ParseBeforeAnyStart);
     }
 
     /// Lines that are no command only because a length or the line itself is
@@ -756,6 +900,33 @@ impl Coverage {
             let good = (MESSAGE_LENGTH as u64..=MOST_LENT as u64).contains(&lower_half);
             self.saw_if(length >> 32 > 0 && good, Event::LengthOfGoodLowerHalf);
         }
+        self.saw_if(line == b"parse", Event::ParseOfNoWord);
+        if let Some(word) = line.strip_prefix(b"parse ") {
+            self.observe_no_message(word, line.len());
+        }
+    }
+
+    /// What came after `parse` and is no message.
+    fn observe_no_message(&mut self, word: &[u8], line_length: usize) {
+        let is_digit = |byte: &u8| matches!(byte, b'0'..=b'9' | b'a'..=b'f');
+        let digits = word.iter().all(is_digit);
+        let odd = word.len() % 2 == 1;
+        if line_length > LONGEST_LINE {
+            let by_a_byte = line_length == LONGEST_LINE + 2;
+            self.saw_if(digits && !odd && by_a_byte, Event::ParseOfByteTooMany);
+            return;
+        }
+        self.saw_if(word.is_empty(), Event::ParseOfEmptyWord);
+        self.saw_if(digits && odd, Event::ParseOfOddDigits);
+        let hexadecimal = word.iter().all(u8::is_ascii_hexdigit);
+        self.saw_if(!odd && hexadecimal && !digits, Event::ParseOfLargeDigit);
+        let one_word = !word.contains(&b' ');
+        self.saw_if(!odd && one_word && !hexadecimal, Event::ParseOfOtherCharacter);
+        // Either would be a message if it stood alone.
+        let alone = |word: &[u8]| read_words(&[b"parse ", word].concat()).is_some();
+        let mut words = word.split(|byte| *byte == b' ');
+        let two = words.clone().count() == 2 && words.all(alone);
+        self.saw_if(two, Event::ParseOfTwoWords);
     }
 
     fn observe_alarms(&mut self, before: &Before, after: &Device) {
@@ -918,6 +1089,8 @@ struct Link {
     started: bool,
     /// A readout that was done.
     readout: bool,
+    /// A message for the reader.
+    parse: bool,
     /// An accepted cycle.
     cycle: bool,
     /// An accepted cycle in which a counter or a total rolled over.
@@ -932,6 +1105,7 @@ impl Link {
         Link {
             started: self.started || matches!(command, Command::Start { .. }),
             readout: done && matches!(command, Command::Readout { .. }),
+            parse: matches!(command, Command::Parse { .. }),
             cycle,
             rolled: cycle && Steps::between(before, after).0.iter().any(|step| step.rolled),
         }
@@ -1216,8 +1390,67 @@ mod tests {
         }
     }
 
+    /// The same of the reader.
+    #[test]
+    fn random_scripts_come_to_the_reader_often() {
+        for seed in SEEDS {
+            let coverage = random_coverage(seed);
+            let seldom = seldom(&coverage, Event::ParsedZeros, Event::ParseOfByteTooMany);
+            assert_eq!(seldom, [""; 0], "seed {seed}");
+            let row = row_of(&Command::Parse { message: Vec::new() });
+            let messages: u64 = coverage.answers[row].iter().sum();
+            let percent = 100 * messages / coverage.answered();
+            assert!((1..=4).contains(&percent), "seed {seed}: {messages} messages");
+        }
+    }
+
+    /// The script of spoilt messages, which has no seed, reaches every kind that
+    /// is a message. Random bytes are none of its kinds.
+    #[test]
+    fn the_spoilt_script_reaches_every_kind() {
+        let mut coverage = Coverage::new();
+        coverage.answer(&spoilt::spoilt_script());
+        let count = |event: Event| coverage.events[event as usize];
+        for event in [
+            Event::ParseBeforeAnyStart,
+            Event::ParseInFirstSession,
+            Event::ParseInSecondSession,
+            Event::ParsedNineDigits,
+            Event::ParsedVmSumDiffers,
+            Event::ParsedVbSumDiffers,
+            Event::CheckWrong,
+            Event::CheckWrongByOneBit,
+            Event::SingleByte,
+            Event::EndsInEtx,
+            Event::ParseOfNoWord,
+            Event::ParseOfEmptyWord,
+        ] {
+            assert!(count(event) >= 1, "{}", EVENTS[event as usize]);
+        }
+        // Everywhere, and with a check character that fits and one that does not.
+        for (event, least) in [
+            (Event::LinesExchanged, 2 * 15),
+            (Event::LineLeftOut, 2 * 6),
+            (Event::LineDoubled, 2 * 6),
+            (Event::PointMoved, 2 * 6 * 12),
+            (Event::EndReversed, 2 * 7),
+            (Event::LargeUnit, 2 * 6),
+            (Event::BlankForDigit, 2 * 72),
+            (Event::ByteLeftOut, 2 * 155),
+            // An ETX doubled is a check character and a byte after it.
+            (Event::ByteDoubled, 2 * 154),
+            (Event::ByteAfter, 3),
+            (Event::BytesAfter, 3),
+            (Event::CutShort, 154),
+            // All 255 other values of each byte, less the other digits of a digit.
+            (Event::ByteChanged, 155 * 255 - 72 * 9),
+        ] {
+            assert!(count(event) >= least, "{} {}", count(event), EVENTS[event as usize]);
+        }
+    }
+
     /// The long script alone asks for a readout on either side of a rollover,
-    /// and into every length that is lent.
+    /// and into every length that is lent. What is large is read back.
     #[test]
     fn the_long_script_reads_out_everywhere() {
         for seed in [0, 1, u64::MAX] {
@@ -1228,6 +1461,8 @@ mod tests {
             // VmT, VbT, Vm together with Vb, VmD; and after VbT has landed.
             assert!(count(Event::ReadoutBeforeRollover) >= 4, "seed {seed}");
             assert!(count(Event::ReadoutAfterRollover) >= 5, "seed {seed}");
+            assert!(count(Event::ParsedOwnReadout) >= 10, "seed {seed}");
+            assert!(count(Event::ParsedNineDigits) >= 10, "seed {seed}");
             for length in 0..=MOST_LENT + 1 {
                 let line = format!("readout {length}").into_bytes();
                 assert!(script.lines.contains(&line), "seed {seed}: {length}");

@@ -14,8 +14,13 @@ use crate::device::{
 };
 use crate::lines::{read_line, write_command, Line, LONGEST_LINE};
 use crate::output::{Output, BUFFER, OFF, OUTPUTS, TICK_LIMIT};
-use crate::readout::MESSAGE_LENGTH;
+use crate::readout::{message, message_of, Values, ETX, MESSAGE_LENGTH, STX};
 use crate::script::Script;
+use crate::spoilt::{
+    digit_places, doubled, end_places, end_reversed, exchanged, left_out, mended, of_length,
+    point_moved, unit_places, with_byte, with_byte_doubled, without_byte, LINES, LONGEST_MESSAGE,
+    POINT, VALUE_LENGTH,
+};
 use crate::table::{Pair, Range, PAGE};
 
 /// A small generator of random numbers (SplitMix64): the same seed gives the
@@ -56,8 +61,8 @@ impl Rng {
         low.wrapping_add(self.below((high - low) as u64 + 1) as i64)
     }
 
-    pub fn pick<T: Copy>(&mut self, from: &[T]) -> T {
-        from[self.below(from.len() as u64) as usize]
+    pub fn pick<T: Clone>(&mut self, from: &[T]) -> T {
+        from[self.below(from.len() as u64) as usize].clone()
     }
 }
 
@@ -68,6 +73,9 @@ pub fn random_script(rng: &mut Rng) -> Script {
     // Without a start the device must be as start time 0 and codes 0 give.
     if writer.rng.percent(30) {
         writer.readout();
+    }
+    if writer.rng.percent(60) {
+        writer.parse();
     }
     if writer.rng.percent(80) {
         writer.start();
@@ -127,9 +135,9 @@ pub fn giant_script(rng: &mut Rng) -> Script {
 
 /// One long script for what no random one reaches: Vm, VmD, Vb, VmT and VbT
 /// roll over, the totals also where neither part does, with a readout on either
-/// side; the line numbers of both books pass 65,535, a readout goes into every
-/// length, and every month of the century begins. No number of pulses and no
-/// reading hangs on the seed, so every seed reaches all of this.
+/// side, which is read back; the line numbers of both books pass 65,535, a readout
+/// goes into every length, and every month of the century begins. No number of
+/// pulses and no reading hangs on the seed, so every seed reaches all of this.
 pub fn long_script(rng: &mut Rng) -> Script {
     let mut writer = Writer::new(rng);
     writer.no_noise = true;
@@ -165,6 +173,7 @@ pub fn long_script(rng: &mut Rng) -> Script {
         let near = writer.near_rollover();
         if near {
             writer.good_readout();
+            writer.read_back();
         }
         if round % 64 == 0 || near {
             writer.say(Command::Report);
@@ -274,6 +283,9 @@ fn highest(setting: usize) -> i64 {
     PAGE.settings[setting - 1].ends().1
 }
 
+/// What stands before the digits of a message.
+const PARSE: &[u8] = b"parse ";
+
 /// The pairs that are in order, by number: the lower and the upper of each.
 fn numbered_pairs() -> Vec<[usize; 2]> {
     PAGE.pairs.iter().map(|Pair { lower, upper }| [lower + 1, upper + 1]).collect()
@@ -324,6 +336,10 @@ impl<'a> Writer<'a> {
             if self.rng.one_in(100) {
                 let remark = self.remark();
                 self.push(remark);
+            }
+            // No step of the device, so that it may come between any two.
+            if self.rng.one_in(40) {
+                self.parse();
             }
             if self.rng.one_in(50) {
                 line = self.with_leading_zeros(line);
@@ -1337,6 +1353,197 @@ impl<'a> Writer<'a> {
         self.say(Command::Abandon { door });
     }
 
+    // ---- messages for the reader ----
+
+    /// A line for the reader: a good message, a spoilt one, or no command at all.
+    fn parse(&mut self) {
+        let line = if self.rng.percent(12) { self.malformed_parse() } else { self.parse_line() };
+        self.push(line);
+    }
+
+    fn parse_line(&mut self) -> Vec<u8> {
+        let message = self.any_message();
+        let mut line = Vec::new();
+        write_command(&Command::Parse { message }, &mut line);
+        line
+    }
+
+    /// What a readout of this moment would write goes to the reader.
+    fn read_back(&mut self) {
+        let message = self.own_message();
+        self.say(Command::Parse { message });
+    }
+
+    fn own_message(&self) -> Vec<u8> {
+        message(&self.model.counters, &self.model.totals)
+    }
+
+    /// A good message, or one that is spoilt. A check character that fits may
+    /// stand at the end of anything, and so may any other.
+    fn any_message(&mut self) -> Vec<u8> {
+        let good = self.good_message();
+        if self.rng.percent(25) {
+            return good;
+        }
+        let spoilt = self.spoilt(&good);
+        match self.rng.below(6) {
+            0 | 1 => mended(&spoilt),
+            2 => self.with_any_check(&spoilt),
+            _ => spoilt,
+        }
+    }
+
+    fn good_message(&mut self) -> Vec<u8> {
+        if self.rng.percent(40) {
+            return self.own_message();
+        }
+        let values = self.values();
+        message_of(&values)
+    }
+
+    /// Six values, mostly such as no device would have together.
+    fn values(&mut self) -> Values {
+        let mut values = [0; LINES];
+        if self.rng.one_in(12) {
+            return values;
+        }
+        for value in &mut values {
+            *value = self.litres();
+        }
+        if self.rng.one_in(3) {
+            for total in [2, 5] {
+                values[total] = (values[total - 2] + values[total - 1]) % VM_MODULUS;
+            }
+        }
+        values
+    }
+
+    /// A value of a message, of any number of digits.
+    fn litres(&mut self) -> u64 {
+        if self.rng.percent(40) {
+            self.rng.pick(&[0, 1, 999, 1_000, VM_MODULUS - 1])
+        } else {
+            let digits = 1 + self.rng.below(12) as u32;
+            self.rng.below(10_u64.pow(digits))
+        }
+    }
+
+    /// A good message with one thing wrong.
+    fn spoilt(&mut self, good: &[u8]) -> Vec<u8> {
+        match self.rng.below(20) {
+            0..=7 => self.spoilt_line(good),
+            8 | 9 => self.with_any_check(good),
+            10 | 11 => {
+                let place = self.place(good.len());
+                with_byte(good, place, self.rng.any() as u8)
+            }
+            // Still of the form.
+            12 => {
+                let place = self.rng.pick(&digit_places());
+                with_byte(good, place, b'0' + self.rng.below(10) as u8)
+            }
+            13 => without_byte(good, self.place(good.len())),
+            14 => with_byte_doubled(good, self.place(good.len())),
+            15 => of_length(good, 1 + self.place(good.len())),
+            16 => of_length(good, good.len() - 1),
+            17 => {
+                let any = self.rng.any() as u8;
+                let after = self.rng.pick(&[0, b'\r', b'\n', good[good.len() - 1], any]);
+                [good, &[after]].concat()
+            }
+            18 => {
+                let longer = good.len() + 1 + self.place(LONGEST_MESSAGE - good.len());
+                let length = self.rng.pick(&[longer, LONGEST_MESSAGE]);
+                of_length(good, length)
+            }
+            _ => self.random_message(),
+        }
+    }
+
+    /// A good message with one thing wrong that is more than a slip of a byte.
+    fn spoilt_line(&mut self, good: &[u8]) -> Vec<u8> {
+        let line = self.place(LINES);
+        match self.rng.below(7) {
+            0 => exchanged(good, line, (line + 1 + self.place(LINES - 1)) % LINES),
+            1 => left_out(good, line),
+            2 => doubled(good, line),
+            3 => with_byte(good, self.rng.pick(&unit_places()), b'M'),
+            4 => end_reversed(good, self.rng.pick(&end_places())),
+            5 => with_byte(good, self.rng.pick(&digit_places()), b' '),
+            _ => {
+                let to = (POINT + 1 + self.place(VALUE_LENGTH - 1)) % VALUE_LENGTH;
+                point_moved(good, line, POINT, to)
+            }
+        }
+    }
+
+    /// Random bytes, or random ones of those that a message is made of.
+    fn random_message(&mut self) -> Vec<u8> {
+        let any = 1 + self.place(LONGEST_MESSAGE);
+        let length = self.rng.pick(&[1, 1, 2, 155, 156, 156, 156, 157, any, any]);
+        let mut bytes = Vec::new();
+        let plain = self.rng.percent(40);
+        for _ in 0..length {
+            let byte = self.rng.any() as u8;
+            let known = self.rng.pick(b"0123456789:.()*m!\r\n\x02\x03");
+            bytes.push(if plain { known } else { byte });
+        }
+        if self.rng.percent(40) {
+            bytes[0] = self.rng.pick(&[STX, ETX]);
+        }
+        bytes
+    }
+
+    /// The same with any other byte at its end, often one bit away.
+    fn with_any_check(&mut self, message: &[u8]) -> Vec<u8> {
+        let last = message.len() - 1;
+        let other = if self.rng.percent(50) {
+            1 << self.rng.below(8)
+        } else {
+            1 + self.rng.below(255) as u8
+        };
+        with_byte(message, last, message[last] ^ other)
+    }
+
+    /// A place among so many.
+    fn place(&mut self, count: usize) -> usize {
+        self.rng.below(count as u64) as usize
+    }
+
+    /// A line of the reader that is no command, or the longest that is one.
+    fn malformed_parse(&mut self) -> Vec<u8> {
+        let mut line = self.parse_line();
+        let digit = PARSE.len() + self.place(line.len() - PARSE.len());
+        match self.rng.below(11) {
+            0 => line = b"parse".to_vec(),
+            1 => line = PARSE.to_vec(),
+            // An odd number of digits.
+            2 => line.truncate(line.len() - 1),
+            3 => line.push(self.rng.pick(b"0af")),
+            4 => line[digit] = self.rng.pick(b"ABCDEF"),
+            5 => line[PARSE.len()..].make_ascii_uppercase(),
+            6 => line[digit] = self.byte(),
+            7 => {
+                let second = self.rng.pick(&[" 02", " 00", " 2f", " 0", " "]);
+                line.extend_from_slice(second.as_bytes());
+            }
+            8 => line.insert(digit, b' '),
+            _ => line = self.longest_parse(),
+        }
+        line
+    }
+
+    /// Around the longest line there is. Two bytes too many are the fewest that
+    /// leave an even number of digits.
+    fn longest_parse(&mut self) -> Vec<u8> {
+        let good = self.good_message();
+        let message = of_length(&good, LONGEST_MESSAGE + 1);
+        let mut line = Vec::new();
+        write_command(&Command::Parse { message }, &mut line);
+        line.truncate(LONGEST_LINE + self.place(3));
+        line
+    }
+
     // ---- arguments ----
 
     fn good_cycle(&mut self) -> Cycle {
@@ -1437,12 +1644,12 @@ impl<'a> Writer<'a> {
     fn edge(&mut self, month: u32) -> u64 {
         let midnight = first_midnight(month);
         let six = midnight + SIX_O_CLOCK;
-        match self.rng.below(12) {
+        match self.rng.below(13) {
             0..=2 => six,
-            3 | 4 => six - 1,
-            5 => six + 1,
-            6 | 7 => midnight,
-            8 | 9 => midnight.saturating_sub(1),
+            3..=5 => six - 1,
+            6 => six + 1,
+            7 | 8 => midnight,
+            9 | 10 => midnight.saturating_sub(1),
             _ => midnight + self.rng.below(SIX_O_CLOCK),
         }
     }
@@ -1795,7 +2002,7 @@ impl<'a> Writer<'a> {
 
     /// Random letters of those that commands are made of.
     fn alphabet_line(&mut self) {
-        const WORDS: [&str; 43] = [
+        const WORDS: [&str; 44] = [
             "start",
             "cycle",
             "begin",
@@ -1813,6 +2020,7 @@ impl<'a> Writer<'a> {
             "archive",
             "log",
             "audit",
+            "parse",
             "w",
             "c",
             "-",
@@ -1897,7 +2105,7 @@ impl<'a> Writer<'a> {
     /// A good command's line, to be spoiled.
     fn well_formed(&mut self) -> Vec<u8> {
         let time = self.model.time;
-        let command = match self.rng.below(17) {
+        let command = match self.rng.below(18) {
             0 => Command::Start { time, code2: self.code(), code3: self.code() },
             1..=3 => Command::Cycle(self.edge_cycle()),
             4 => Command::Begin { door: self.door() },
@@ -1915,6 +2123,7 @@ impl<'a> Writer<'a> {
             13 => Command::Tick { named: self.rng.below(TICK_LIMIT + 2) },
             14 => Command::Outputs,
             15 => Command::Readout { length: self.rng.below(MOST_LENT as u64 + 2) as usize },
+            16 => Command::Parse { message: self.any_message() },
             _ => self.rng.pick(&[Command::Log { index: 0 }, Command::Audit { index: 3 }]),
         };
         let mut line = Vec::new();
@@ -1931,7 +2140,7 @@ impl<'a> Writer<'a> {
         let count = words.len() as u64;
         let place = self.rng.below(count) as usize;
         let last = words.len() - 1;
-        let mut line = match self.rng.below(24) {
+        let mut line = match self.rng.below(25) {
             0 => {
                 words.remove(place);
                 words.join(&b' ')
@@ -1979,7 +2188,7 @@ impl<'a> Writer<'a> {
                     .rng
                     .pick(&[
                         "Start", "cycles", "cycl", "beginn", "?", "help", "0", "ticks", "output",
-                        "readouts",
+                        "readouts", "parses", "Parse",
                     ])
                     .into();
                 words.join(&b' ')
@@ -2062,6 +2271,7 @@ impl<'a> Writer<'a> {
                 }
                 line
             }
+            23 => self.malformed_parse(),
             _ => {
                 // Two commands on one line.
                 let second = self.well_formed();

@@ -1,4 +1,4 @@
-//! The corrector of document 01, with requests One to Five of document 02, as a
+//! The corrector of document 01, with requests One to Six of document 02, as a
 //! plain Rust program.
 //!
 //! It was written from these documents and not from the Rattle code, so that
@@ -14,9 +14,11 @@ pub mod device;
 pub mod generate;
 pub mod lines;
 pub mod output;
+pub mod reader;
 pub mod readout;
 pub mod script;
 pub mod shrink;
+pub mod spoilt;
 pub mod table;
 pub mod usage;
 pub mod walk;

@@ -13,7 +13,7 @@ pub const LONGEST_LINE: usize = 500;
 /// The most words of a command: those of `cycle`.
 const MOST_WORDS: usize = 6;
 
-#[derive(Clone, Copy, Debug, PartialEq)]
+#[derive(Clone, Debug, PartialEq)]
 pub enum Line {
     /// An empty line or a remark: no answer.
     Nothing,
@@ -88,6 +88,7 @@ pub(crate) fn read_words(line: &[u8]) -> Option<Command> {
         [b"archive", index] => Some(Command::Archive { index: unsigned(index)? }),
         [b"log", index] => Some(Command::Log { index: unsigned(index)? }),
         [b"audit", index] => Some(Command::Audit { index: unsigned(index)? }),
+        [b"parse", digits] => Some(Command::Parse { message: bytes(digits)? }),
         _ => None,
     }
 }
@@ -132,14 +133,28 @@ fn hexadecimal(word: &[u8]) -> Option<u64> {
     }
     let mut bits = 0;
     for byte in word {
-        let digit = match byte {
-            b'0'..=b'9' => byte - b'0',
-            b'a'..=b'f' => byte - b'a' + 10,
-            _ => return None,
-        };
-        bits = bits << 4 | u64::from(digit);
+        bits = bits << 4 | u64::from(hex_digit(*byte)?);
     }
     Some(bits)
+}
+
+/// Bytes of two digits each.
+fn bytes(word: &[u8]) -> Option<Vec<u8>> {
+    let pair = |pair: &[u8]| match *pair {
+        [high, low] => Some(hex_digit(high)? << 4 | hex_digit(low)?),
+        // An odd number of digits leaves one alone.
+        _ => None,
+    };
+    word.chunks(2).map(pair).collect()
+}
+
+/// The value of a digit, small letters only.
+fn hex_digit(byte: u8) -> Option<u8> {
+    match byte {
+        b'0'..=b'9' => Some(byte - b'0'),
+        b'a'..=b'f' => Some(byte - b'a' + 10),
+        _ => None,
+    }
 }
 
 fn or_failed<T>(word: &[u8], read: impl Fn(&[u8]) -> Option<T>) -> Option<Option<T>> {
@@ -206,6 +221,9 @@ pub fn write_command(command: &Command, out: &mut Vec<u8>) {
         Command::Audit { index } => {
             words.text("audit").number(index);
         }
+        Command::Parse { ref message } => {
+            words.text("parse").bytes(message);
+        }
     }
 }
 
@@ -253,6 +271,11 @@ pub fn write_answer(answer: &Answer, out: &mut Vec<u8>) {
             words.number(line.number.into()).number(line.time);
             words.number(line.door.into()).number(line.setting.into());
             words.value(line.old).value(line.new);
+        }
+        Done::Parsed(values) => {
+            for litres in values {
+                words.number(litres);
+            }
         }
     }
 }

@@ -259,7 +259,7 @@ mod tests {
                 let Line::Command(command) = read_line(&line) else { continue };
                 let before = (device.counters, device.totals);
                 let answer = obey(&mut device, &command);
-                match (command, answer) {
+                match (&command, answer) {
                     (Command::Start { .. }, _) => histories = [History::default(); OUTPUTS],
                     (Command::Cycle(_), Ok(_)) => {
                         let (counters, totals) = before;

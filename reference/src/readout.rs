@@ -9,15 +9,23 @@ use crate::device::{Counters, Totals, UNITS_A_LITRE};
 /// How many bytes a message has, whatever it says.
 pub const MESSAGE_LENGTH: usize = 156;
 
-const STX: u8 = 0x02;
-const ETX: u8 = 0x03;
+pub(crate) const STX: u8 = 0x02;
+pub(crate) const ETX: u8 = 0x03;
 
 /// The addresses of Vb, VbD, VbT, Vm, VmD and VmT, as the manual numbers them.
-const ADDRESSES: [&str; 6] = ["2:300", "2:301", "2:302", "4:300", "4:301", "4:302"];
+pub(crate) const ADDRESSES: [&str; 6] = ["2:300", "2:301", "2:302", "4:300", "4:301", "4:302"];
+
+/// Six values in litres, in the order of their addresses.
+pub type Values = [u64; ADDRESSES.len()];
 
 /// The message of counters and totals that are in range.
 pub fn message(counters: &Counters, totals: &Totals) -> Vec<u8> {
-    let checked = checked_part(&litres(counters, totals));
+    message_of(&litres(counters, totals))
+}
+
+/// The message of six values, each below 10^12.
+pub fn message_of(values: &Values) -> Vec<u8> {
+    let checked = checked_part(values);
     let mut message = vec![STX];
     message.extend_from_slice(&checked);
     message.push(check_character(&checked));
@@ -27,7 +35,7 @@ pub fn message(counters: &Counters, totals: &Totals) -> Vec<u8> {
 /// The six values in the order of their addresses, cut off downwards to litres.
 /// VbT is the kept total cut off: two parts cut off before they are added may
 /// be a litre short of it.
-pub(crate) fn litres(counters: &Counters, totals: &Totals) -> [u64; ADDRESSES.len()] {
+pub(crate) fn litres(counters: &Counters, totals: &Totals) -> Values {
     let cut_off = |amount: u64| amount / UNITS_A_LITRE;
     [
         cut_off(counters.vb),
@@ -41,7 +49,7 @@ pub(crate) fn litres(counters: &Counters, totals: &Totals) -> [u64; ADDRESSES.le
 
 /// The bytes that the check character is taken over: all after STX, up to and
 /// with ETX.
-fn checked_part(values: &[u64; ADDRESSES.len()]) -> Vec<u8> {
+fn checked_part(values: &Values) -> Vec<u8> {
     let mut text = String::new();
     for (address, litres) in ADDRESSES.iter().zip(values) {
         text.push_str(&format!("{address}({}*m3)\r\n", cubic_metres(*litres)));
@@ -58,7 +66,7 @@ fn cubic_metres(litres: u64) -> String {
 }
 
 /// The exclusive-or of all bytes.
-fn check_character(bytes: &[u8]) -> u8 {
+pub(crate) fn check_character(bytes: &[u8]) -> u8 {
     bytes.iter().fold(0, |sum, byte| sum ^ byte)
 }
 

@@ -28,6 +28,7 @@ fn every_command_is_read() {
         let value = Value::Coefficient(f64::from_bits(bits));
         Command::Write { door: 1, setting: 11, value }
     };
+    let every_digit = vec![0x01, 0x23, 0x45, 0x67, 0x89, 0xab, 0xcd, 0xef];
     let commands: Vec<(&str, Command)> = vec![
         ("start 1 2 3", Command::Start { time: 1, code2: 2, code3: 3 }),
         ("cycle 1 2 3 4 5", cycle(Some(3), Some(4), Some(5))),
@@ -56,12 +57,15 @@ fn every_command_is_read() {
         ("archive 4", Command::Archive { index: 4 }),
         ("log 18446744073709551615", Command::Log { index: u64::MAX }),
         ("audit 0", Command::Audit { index: 0 }),
+        ("parse 00", Command::Parse { message: vec![0] }),
+        ("parse 0123456789abcdef", Command::Parse { message: every_digit }),
+        ("parse ff00ff", Command::Parse { message: vec![255, 0, 255] }),
     ];
     for (line, command) in commands {
-        assert_eq!(read_line(line.as_bytes()), Line::Command(command), "{line}");
         let mut written = Vec::new();
         write_command(&command, &mut written);
         assert_eq!(String::from_utf8(written).unwrap(), line);
+        assert_eq!(read_line(line.as_bytes()), Line::Command(command), "{line}");
     }
 }
 
@@ -148,6 +152,33 @@ fn nothing_and_malformed() {
         b"readout156",
         b"Readout 156",
         b"readouts 156",
+        b"parse",
+        b"parse ",
+        b"parse  ",
+        b"parse 0",
+        b"parse 000",
+        b"parse 0A",
+        b"parse A0",
+        b"parse AB",
+        b"parse 0g",
+        b"parse 0x",
+        b"parse 0x02",
+        b"parse -0",
+        b"parse +0",
+        b"parse 0:",
+        b"parse 0/",
+        b"parse 0`",
+        b"parse 00 00",
+        b"parse 00 ",
+        b"parse  00",
+        b" parse 00",
+        b"parse\t00",
+        b"parse 00\r",
+        b"parse 0\x00",
+        b"parse \xd9\xa0",
+        b"parse00",
+        b"Parse 00",
+        b"parses 00",
         b"write 1 2 3",
         b"write 1 2 w",
         b"write 1 2 w ",
@@ -183,11 +214,20 @@ fn open_points() {
         read_line(b"log 000000000000000000000000018446744073709551615"),
         Line::Command(Command::Log { index: u64::MAX })
     );
+    // But in a message each digit counts.
+    assert_ne!(read_line(b"parse 0000"), read_line(b"parse 00"));
     // A line of 500 bytes is the longest.
     for length in [200, 201, 499, 500] {
         assert!(is_command(&long_line(length)), "{length}");
     }
     assert_eq!(read_line(&long_line(501)), Line::Malformed);
+    // It has room for 247 bytes of a message.
+    let message = |count: usize| format!("parse {}", "a5".repeat(count)).into_bytes();
+    let read = Line::Command(Command::Parse { message: vec![0xa5; 247] });
+    assert_eq!(message(247).len(), 500);
+    assert_eq!(read_line(&message(247)), read);
+    assert_eq!(read_line(&message(248)[..501]), Line::Malformed);
+    assert_eq!(read_line(&message(248)), Line::Malformed);
     let remark = [b'#'; 5_000];
     assert_eq!(read_line(&remark), Line::Nothing);
 }
@@ -285,5 +325,6 @@ fn answers_have_the_form_of_the_table() {
         ("outputs", "0 0 0 0 0 0 0 100000 33 0 0 0 0"),
         ("tick 4", "0 0 0 4 0"),
         ("tick 601", "15"),
+        ("parse 02", "17"),
     ]);
 }

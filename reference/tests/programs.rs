@@ -9,6 +9,7 @@ use std::process::{Command, Output};
 
 use corrector_reference::cases;
 use corrector_reference::coverage::Coverage;
+use corrector_reference::spoilt::spoilt_script;
 use corrector_reference::table::PAGE;
 use corrector_reference::walk::walk_script;
 
@@ -58,13 +59,17 @@ fn no_difference_to_itself() {
     assert!(text.starts_with("seed 1\n"), "{text}");
     let walk = format!("\nwalk over the settings page of {} steps: ", walk_script().lines.len());
     assert!(text.contains(&walk), "{text}");
+    let steps = spoilt_script().lines.len();
+    let spoilt = format!("\nspoilt messages to the reader in {steps} steps: no difference\n");
+    assert!(text.contains(&spoilt), "{text}");
     assert!(text.contains("How often each command had each answer"), "{text}");
     let all = PAGE.settings.len();
     assert!(text.contains(&format!("  lowest value accepted: {all} of {all}\n")), "{text}");
     assert!(text.trim_end().ends_with("no difference (seed 1)"), "{text}");
     let output = compare(&["--bench", ANSWER, "--fuzz", "20000"]);
     assert_eq!(output.status.code(), Some(0), "{}", String::from_utf8_lossy(&output.stdout));
-    assert!(String::from_utf8_lossy(&output.stdout).contains(&walk));
+    let text = String::from_utf8_lossy(&output.stdout);
+    assert!(text.contains(&walk) && text.contains(&spoilt), "{text}");
 }
 
 #[test]
@@ -101,10 +106,9 @@ fn a_readout_past_its_message_is_found() {
     assert!(last.contains("the bench: 0 02") && last.ends_with("ab"), "{out}");
 }
 
-/// What the walk over the settings page finds of a bench, without a case and
-/// without a random step.
+/// What the scripts without a seed find of a bench: no case and no random step.
 #[track_caller]
-fn walk_finds(name: &str, shell: &str) -> String {
+fn fixed_scripts_find(name: &str, shell: &str) -> String {
     let empty = PathBuf::from(env!("CARGO_TARGET_TMPDIR")).join(format!("no-cases-of-{name}"));
     fs::create_dir_all(&empty).unwrap();
     finds(name, shell, &["--cases", empty.to_str().unwrap(), "--no-long", "--steps", "0"])
@@ -116,7 +120,7 @@ fn the_walk_finds_a_wrong_end_of_a_range() {
     for setting in [17, 29] {
         let (_, high) = PAGE.settings[setting - 1].ends();
         let shell = format!("sed -u 's/ {setting} w {high}$/&0/' | ANSWER");
-        let out = walk_finds(&format!("wrong-end-of-{setting}"), &shell);
+        let out = fixed_scripts_find(&format!("wrong-end-of-{setting}"), &shell);
         // Begin and write.
         assert!(out.contains("the shortest script found, 2 lines"), "{out}");
         assert!(out.contains("the bench: 9"), "{out}");
@@ -126,9 +130,28 @@ fn the_walk_finds_a_wrong_end_of_a_range() {
 /// No lock is ever missing on the bench.
 #[test]
 fn the_walk_finds_a_wrong_right() {
-    let out = walk_finds("never-missing", "ANSWER | sed -u 's/^10$/0/'");
+    let out = fixed_scripts_find("never-missing", "ANSWER | sed -u 's/^10$/0/'");
     assert!(out.contains("-> 10\n"), "{out}");
     assert!(out.contains("the bench: 0"), "{out}");
+}
+
+/// Readers with one fault each, and what the reference says where they differ
+/// first: one takes an upper-case M for a small one, one does not look at what
+/// comes after the check character, and one does not know 18.
+#[test]
+fn the_spoilt_messages_find_a_reader_that_reads_too_much() {
+    for (name, shell, reference, bench) in [
+        ("large-unit", "sed 's/4d33290d0a/6d33290d0a/g' | ANSWER", "17", "18"),
+        ("byte-after", "sed 's/^\\(parse .\\{312\\}\\)\\(..\\)*$/\\1/' | ANSWER", "17", "0 "),
+        ("no-18", "ANSWER | sed 's/^18$/17/'", "18", "17"),
+    ] {
+        let out = fixed_scripts_find(name, shell);
+        // The walk has found nothing, and one message is enough.
+        assert!(out.contains("walk over the settings page"), "{out}");
+        assert!(out.contains("the shortest script found, 1 lines"), "{out}");
+        assert!(out.contains(&format!("-> {reference}\n")), "{out}");
+        assert!(out.contains(&format!("the bench: {bench}")), "{out}");
+    }
 }
 
 #[test]

@@ -362,6 +362,15 @@ fn readout() {
     tell(&[("begin 1", "0"), ("begin 2", "0"), ("open 1 0", "0"), ("readout 155", "16")]);
 }
 
+/// What is no message. `tests/reader.rs` has what is nearly one.
+#[test]
+fn parse() {
+    for bytes in ["00", "02", "03", "0203", "ffff", "000000"] {
+        tell(&[(&format!("parse {bytes}"), "17")]);
+    }
+    tell(&[("begin 1", "0"), ("begin 2", "0"), ("open 1 0", "0"), ("parse 02", "17")]);
+}
+
 #[test]
 fn books() {
     for book in ["archive", "log", "audit"] {
@@ -404,6 +413,8 @@ fn a_refusal_changes_nothing() {
         ("tick 601", "15"),
         ("readout 155", "16"),
         ("readout 201", "?"),
+        ("parse 02", "17"),
+        ("parse 0", "?"),
         ("archive 99", "13"),
         ("log 999", "13"),
         ("audit 999", "13"),

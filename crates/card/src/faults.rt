@@ -5,6 +5,8 @@ use crate::page::row_begins;
 use crate::page::row_ends;
 use crate::table::pairs;
 use print::text;
+use reader::NOT_A_MESSAGE;
+use reader::WRONG_CHECK;
 use state::faults::BAD_VALUE;
 use state::faults::DONE;
 use state::faults::LOCK_MISSING;
@@ -179,19 +181,40 @@ fn the_last_four() {
     );
 }
 
+// What the reader of messages says.
+fn of_the_reader() {
+    limit(
+        NOT_A_MESSAGE,
+        b"Reading a captured readout back: the bytes, the last one aside, are not a message of ",
+        message::SIZE as u64,
+        b" bytes with the six lines in their order and nothing else",
+        b"No values were taken. Compare the text with the readout byte by byte, also the line ends, or capture it again",
+    );
+    plain(
+        WRONG_CHECK,
+        b"Reading a captured readout back: the form is right, and the check character is wrong",
+        b"No values were taken. A digit or the check character was changed on the way: read the box out again",
+    );
+}
+
 pub fn run() {
     text(b"## Numbers 0 to ");
-    number(SHORT_BUFFER);
+    number(WRONG_CHECK);
     text(b"\n\n");
     text(b"| No. | Given when | What to do |\n|--:|---|---|\n");
     of_the_call();
     of_the_cycle();
     of_the_settings();
     the_last_four();
+    of_the_reader();
     text(
         b"\nWhere several apply, 1 comes first, then 3, then 2 or 4, then the rest in rising number. A refusal gives no value and changes\n",
     );
     text(
-        b"nothing; but a commit refused with 10, 11 or 12 also ends its session, and what that had read or staged is gone.\n",
+        b"nothing; but a commit refused with 10, 11 or 12 also ends its session, and what that had read or staged is gone. ",
     );
+    number(NOT_A_MESSAGE);
+    text(b" and ");
+    number(WRONG_CHECK);
+    text(b" come from the office's reader alone, never from the box.\n");
 }

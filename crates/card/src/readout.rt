@@ -31,5 +31,8 @@ pub fn run() {
     text(
         b"\nWhat comes after the third decimal is cut off and not rounded. So VbT may read 0.001 above what Vb and VbD read together: what was cut off of both can make\n",
     );
-    text(b"a litre.\n");
+    text(b"a litre.\n\n");
+    text(
+        b"The office reads a captured message back into six values in litres: `./parse FILE`. Every byte has to be there as the box sent it, and none besides.\n",
+    );
 }

@@ -8,11 +8,14 @@ use Prim.Native.String.{String}
 use lib.Dec.{eqb}
 use lib.IntN.{ℤ, pos, negsuc, negℤ}
 use lib.Ieee.{Float, nan, inf, fin, binary64, ofBits}
-use lib.ListN.{replicate, set}
+use lib.ListN.{take, drop, replicate, set}
 use Rattle.order.specs.Order.{run}
 use Rattle.spelling.specs.Spelling.{bytes}
 use Rattle.message.specs.declared.Values.{Values}
 use Rattle.message.specs.Message.{check}
+use Rattle.reader.specs.declared.Parsed.{Parsed}
+use Rattle.reader.specs.declared.Parsed.the-variants.{Accepted, Refused}
+use Rattle.reader.specs.Reader.{parsed, parsedNumber}
 use Rattle.units.specs.Units.{litresOf, baseOf}
 use Rattle.settings.specs.declared.Setting.{Setting}
 use Rattle.settings.specs.Settings.{factorySettings, cp, pMax, firstChoice, firstWeight}
@@ -80,6 +83,10 @@ pub data Case : Type 0 where
   bufferCase : State → List Step → List ℕ → List ℕ → List ℕ → Case
   -- the check character of six values in litres, and the answer
   checkCase : Values → ℕ → Case
+  -- bytes that the reader is given, and the six values in litres that it answers
+  acceptedCase : List ℕ → Values → Case
+  -- or the number that it refuses them with
+  refusedCase : List ℕ → ℕ → Case
 
 -- H2 is `H 2` (H8 has the times that document 02, Two, gave it); a case of document 02's One is `Request 1`
 pub data Source : Type 0 where
@@ -165,6 +172,11 @@ unfoldable pub allRead : List Reply → List ℕ
 allRead [] = []
 allRead (a ∷ rest) = readoutsBy sixLitres (a .given) ++ allRead rest
 
+-- the reader accepted, and gave these values
+unfoldable pub readTo : Parsed → Values → Bool
+readTo (Accepted w) v = sameNumbers (sixLitres w) (sixLitres v)
+readTo (Refused n) v = false
+
 -- a run: the numbers of its answers, and the test of what is seen at the end
 unfoldable pub ranTo : State → List Step → List ℕ → (World → Bool) → Bool
 ranTo s steps numbers seen =
@@ -185,6 +197,8 @@ holds (emittedCase s steps numbers emitted) = ranTo s steps numbers (λ w. sameN
 holds (readoutCase s steps numbers values) = ranTo s steps numbers (λ w. sameNumbers (allRead ((run corrector steps (blank s)) .0)) values)
 holds (bufferCase s steps numbers before after) = ranTo s steps numbers (λ w. sameNumbers (readoutLeaves (w .state) before) after)
 holds (checkCase v answer) = eqb (check v) answer
+holds (acceptedCase bytes v) = readTo (parsed bytes) v
+holds (refusedCase bytes number) = eqb (parsedNumber (parsed bytes)) number
 holds (archiveCase s steps numbers lines) = ranTo s steps numbers (λ w. sameNumbers (fiveOfEach (archiveHeld w)) lines)
 
 unfoldable pub allHold : List Row → Bool
@@ -274,6 +288,9 @@ bothSides = aCycle 60 10 202650 ∷ aCycle 120 10 89999 ∷ []
 abbrev pub printed : String → List ℕ
 printed s = bytes s ++ (13 ∷ 10 ∷ [])
 
+abbrev pub lineOf : String → String → List ℕ
+lineOf address value = bytes address ++ bytes "(" ++ bytes value ++ printed "*m3)"
+
 -- the message of that device, byte by byte: STX, the lines, ETX, and the check character, which is `/`
 unfoldable pub itsMessage : List ℕ
 itsMessage =
@@ -287,6 +304,19 @@ itsMessage =
     ++ printed "!"
     ++ (3 ∷ [])
     ++ bytes "/"
+
+-- a message with one value in all six lines, and its check character
+abbrev pub ofSix : String → ℕ → List ℕ
+ofSix value last =
+    (2 ∷ [])
+    ++ lineOf "2:300" value
+    ++ lineOf "2:301" value
+    ++ lineOf "2:302" value
+    ++ lineOf "4:300" value
+    ++ lineOf "4:301" value
+    ++ lineOf "4:302" value
+    ++ printed "!"
+    ++ (3 ∷ last ∷ [])
 
 -- one command of each kind
 abbrev pub oneOfEach : List Step
@@ -493,4 +523,27 @@ table =
     -- a total that is not main plus disturbed: 1 comes before 16, and nothing is written
     ∷ row (Request 5) (runCase (deviceAt (counts 1 0 0 0 0 0)) (Ask (question.Readout 155) ∷ Ask (question.Readout 156) ∷ []) (1 ∷ 1 ∷ []))
     ∷ row (Request 5) (bufferCase (deviceAt (counts 1 0 0 0 0 0)) [] [] (replicate 157 170) (replicate 157 170))
+    -- the message of that device reads back. 2,795 is not 1,863 + 931: a total is not tested against its parts
+    ∷ row (Request 6) (acceptedCase itsMessage (litres 1863 931 2795 1000 1000 2000))
+    -- the last byte is aside in the form: 18. `o` is not the `/` of this message, though they differ in one bit alone
+    ∷ row (Request 6) (refusedCase (set itsMessage 155 46) 18)
+    ∷ row (Request 6) (refusedCase (set itsMessage 155 111) 18)
+    -- no byte; 155 bytes that end in ETX; a byte after the check character
+    ∷ row (Request 6) (refusedCase [] 17)
+    ∷ row (Request 6) (refusedCase (take 155 itsMessage) 17)
+    ∷ row (Request 6) (refusedCase (itsMessage ++ (47 ∷ [])) 17)
+    -- `M3`, and the check is wrong too: 17 before 18. A blank for the first digit
+    ∷ row (Request 6) (refusedCase (set itsMessage 21 77) 17)
+    ∷ row (Request 6) (refusedCase (set itsMessage 7 32) 17)
+    -- LF CR, and the point one place to the left: the same bytes in another order, so that the check is right
+    ∷ row (Request 6) (refusedCase (set (set itsMessage 24 10) 25 13) 17)
+    ∷ row (Request 6) (refusedCase (set (set itsMessage 15 46) 16 49) 17)
+    -- two lines exchanged, and the check is right; a line left out
+    ∷ row (Request 6) (refusedCase (take 1 itsMessage ++ (take 25 (drop 26 itsMessage) ++ (take 25 (drop 1 itsMessage) ++ drop 51 itsMessage))) 17)
+    ∷ row (Request 6) (refusedCase (take 126 itsMessage ++ drop 151 itsMessage) 17)
+    -- the last digits of two lines exchanged: this is the message of other values, and its check is right
+    ∷ row (Request 6) (acceptedCase (set (set itsMessage 19 49) 44 51) (litres 1861 933 2795 1000 1000 2000))
+    -- the ends of the range: six zeros, and six times 999,999,999.999
+    ∷ row (Request 6) (acceptedCase (ofSix "000000000.000" 35) (litres 0 0 0 0 0 0))
+    ∷ row (Request 6) (acceptedCase (ofSix "999999999.999" 35) (litres 999999999999 999999999999 999999999999 999999999999 999999999999 999999999999))
     ∷ []

@@ -1,5 +1,6 @@
 // The commands of the device, in groups, and the answers to them. The same types serve throughout: a line of text is read into a command, the device is given it,
 // and it is a step of a run.
+use reader::Parsed;
 ghost use mathlib.Core.Path.{_≡_};
 ghost use Rattle.commands.specs.Answers.{plain, giving, answered};
 
@@ -77,7 +78,8 @@ pub struct Answer {
     pub state: state::State,
 }
 
-// What a line of input asks for: nothing (it is empty or a comment), something unknown, a new device in the place of this one, or a command.
+// What a line of input asks for: nothing (it is empty or a comment), something unknown, a new device in the place of this one, a command, or that a message be read. The
+// reader needs no device, so its answer stands here already.
 pub enum Entry {
     Nothing,
     Unknown,
@@ -87,6 +89,7 @@ pub enum Entry {
         custcode: u32,
     },
     Put(Command),
+    Parse(Parsed),
 }
 
 // What is said to a line.
@@ -94,6 +97,7 @@ pub enum Echo {
     Nothing,
     Unknown,
     Said(Reply),
+    Parse(Parsed),
 }
 
 // ---- answers

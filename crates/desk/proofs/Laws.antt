@@ -33,6 +33,7 @@ desk-is d entry.Nothing = refl
 desk-is d entry.Unknown = refl
 desk-is d (entry.Start time supcode custcode) = refl
 desk-is d (entry.Put c) = rw (turn-is-step c (worldIn d))
+desk-is d (entry.Parse p) = refl
 
 response-is : (d : Desk) (e : Entry) → _≡_ {A = Response} (responseOn (wholeB (d .state)) d e) (record { echo = (entered e (worldIn d)) .1 })
 unfolding entered responseOn responseBy echoBy commandIn answeredIn turnOn seenOn seenOf turnOf turnBy answerIn
@@ -40,6 +41,7 @@ response-is d entry.Nothing = refl
 response-is d entry.Unknown = refl
 response-is d (entry.Start time supcode custcode) = refl
 response-is d (entry.Put c) = rw (turn-is-step c (worldIn d))
+response-is d (entry.Parse p) = refl
 
 sound-is : (w : World) (e : Entry) → soundBy e (wholeB (w .state)) ≡ wholeB ((entered e w) .0 .state)
 unfolding soundBy entered
@@ -47,6 +49,7 @@ sound-is w entry.Nothing = refl
 sound-is w entry.Unknown = refl
 sound-is w (entry.Start time supcode custcode) = sym (start-whole time supcode custcode)
 sound-is w (entry.Put c) = sym (step-keeps c w)
+sound-is w (entry.Parse p) = refl
 
 -- the lines of a block
 sound-after : (d : Desk) (inputs : List Input) (k : ℕ) → soundAfter d inputs k ≡ wholeB (worldAfter (worldIn d) inputs k .state)

@@ -49,6 +49,7 @@ entered entry.Unknown w = (w, echo.Unknown)
 entered (entry.Start time supcode custcode) w =
     (withState w (startOf time supcode custcode .state), echo.Said (startOf time supcode custcode .reply))
 entered (entry.Put c) w = ((step c w) .0, echo.Said ((step c w) .1))
+entered (entry.Parse p) w = (w, echo.Parse p)
 
 -- ---- lines one after another
 

@@ -33,6 +33,7 @@ commandIn entry.Nothing = Ask Report
 commandIn entry.Unknown = Ask Report
 commandIn (entry.Start time supcode custcode) = Ask Report
 commandIn (entry.Put c) = c
+commandIn (entry.Parse p) = Ask Report
 
 -- a start replaces the device
 unfoldable pub answeredIn : Entry → Answer → Answer
@@ -40,12 +41,14 @@ answeredIn entry.Nothing a = a
 answeredIn entry.Unknown a = a
 answeredIn (entry.Start time supcode custcode) a = startOf time supcode custcode
 answeredIn (entry.Put c) a = a
+answeredIn (entry.Parse p) a = a
 
 unfoldable pub echoBy : Entry → Reply → Echo
 echoBy entry.Nothing r = echo.Nothing
 echoBy entry.Unknown r = echo.Unknown
 echoBy (entry.Start time supcode custcode) r = echo.Said r
 echoBy (entry.Put c) r = echo.Said r
+echoBy (entry.Parse p) r = echo.Parse p
 
 unfoldable pub responseBy : Entry → Answer → Response
 responseBy e a = record { echo = echoBy e (a .reply) }
@@ -56,6 +59,7 @@ soundBy entry.Nothing sound = sound
 soundBy entry.Unknown sound = sound
 soundBy (entry.Start time supcode custcode) sound = true
 soundBy (entry.Put c) sound = sound
+soundBy (entry.Parse p) sound = sound
 
 -- ---- one line
 

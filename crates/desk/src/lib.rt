@@ -159,6 +159,7 @@ fn command_in(e: Entry) -> Command
         Entry::Unknown => Command::Ask(Question::Report),
         Entry::Start { .. } => Command::Ask(Question::Report),
         Entry::Put(c) => c,
+        Entry::Parse(_) => Command::Ask(Question::Report),
     }
 }
 
@@ -184,6 +185,7 @@ fn answered_in(e: Entry, a: Answer) -> Answer
             custcode,
         } => panel::start(time, supcode, custcode),
         Entry::Put(_) => a,
+        Entry::Parse(_) => a,
     }
 }
 
@@ -195,6 +197,7 @@ fn echo_by(e: Entry, reply: Reply) -> Echo
         Entry::Unknown => Echo::Unknown,
         Entry::Start { .. } => Echo::Said(reply),
         Entry::Put(_) => Echo::Said(reply),
+        Entry::Parse(p) => Echo::Parse(p),
     }
 }
 
@@ -221,6 +224,7 @@ fn sound_by(e: Entry, sound: bool) -> bool
         Entry::Unknown => sound,
         Entry::Start { .. } => true,
         Entry::Put(_) => sound,
+        Entry::Parse(_) => sound,
     }
 }
 

@@ -70,9 +70,13 @@ fn ticks(s: State, x: Lines) {
     );
 }
 
-// No byte, one less than the message has, one more, and the most that the bench lends.
+// No byte, one less than the message has, one more, and the most that the bench lends. The reader says the same of its bytes whatever the state is.
 fn readouts(s: State, x: Lines) {
-    each(b"readout 0\nreadout 155\nreadout 157\nreadout 200\n", s, x);
+    each(
+        b"readout 0\nreadout 155\nreadout 157\nreadout 200\nparse 0203\n",
+        s,
+        x,
+    );
 }
 
 fn sessions(s: State, x: Lines) {

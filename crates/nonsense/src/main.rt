@@ -1,7 +1,9 @@
 // Puts nonsense to every public function of the device and prints the answers: first states that break one clause of "whole", then what the rows of
-// the settings allow and refuse, then stores of a wrong length, then commands refused for several reasons at once, then readouts into buffers of every kind of length. The file stdout beside it is what tools/nonsense.py works out from the rules.
+// the settings allow and refuse, then stores of a wrong length, then commands refused for several reasons at once, then readouts into buffers of every kind of length,
+// then captured messages. The file stdout beside it is what tools/nonsense.py works out from the rules.
 mod accounts;
 mod buffers;
+mod captured;
 mod clauses;
 mod lengths;
 mod lists;
@@ -17,4 +19,5 @@ fn main() {
     lengths::run();
     order::run();
     buffers::run();
+    captured::run();
 }

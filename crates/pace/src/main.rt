@@ -21,6 +21,7 @@ fn is_accepted(x: Response) -> bool {
         Echo::Nothing => false,
         Echo::Unknown => false,
         Echo::Said(reply) => is_done(reply),
+        Echo::Parse(_) => false,
     }
 }
 

@@ -1,14 +1,17 @@
--- A readout after any run from a start: what it answers, what it writes, and that its message can say the values.
+-- A readout after any run from a start: what it answers, what it writes, that its message can say the values, and that it reads back to them.
 -- Assumes nothing.
-use mathlib.Core.Path.{_≡_, refl}
-use mathlib.Core.List.{List, _++_}
+use mathlib.Core.Path.{_≡_, ap, _∙_}
+use mathlib.Core.List.{List, _++_, append-nil}
 use Prim.Native.Nat.{ℕ, _≤_}
 use native.Mathlib.Omega.{arith}
 use borrow.Author.Tests.{le-ltb}
-use lib.ListN.{length, drop}
+use lib.ListN.{length, drop, drop-of-length-le}
 use Rattle.order.specs.Order.{run}
 use Rattle.units.specs.Units.{litresShown, baseShown}
 use Rattle.message.specs.Message.{message, size, Fits}
+use Rattle.reader.specs.declared.Parsed.the-variants.{Accepted}
+use Rattle.reader.specs.Reader.{parsed}
+use Rattle.reader.proofs.Laws.{reads-back}
 use Rattle.books.specs.declared.ArchiveLine.{ArchiveLine}
 use Rattle.books.specs.declared.LogLine.{LogLine}
 use Rattle.books.specs.declared.AuditLine.{AuditLine}
@@ -51,3 +54,10 @@ module _ (xs : List Step) (time supcode custcode : ℕ) (archive : List ArchiveL
   pub readout-writes : (old : List ℕ) → size ≤ length old → readoutLeaves (end .state) old ≡ message (valuesIn past) ++ drop size old
   unfolding readoutLeaves readoutRefusal
   readout-writes old h = rw (always-whole xs time supcode custcode archive log audit, le-ltb (length old) size h, counted)
+
+  -- WHAT A READOUT WROTE READS BACK to these values
+  pub readout-reads-back : (old : List ℕ) → length old ≡ size → parsed (readoutLeaves (end .state) old) ≡ Accepted (valuesIn past)
+  readout-reads-back old h =
+      let only : readoutLeaves (end .state) old ≡ message (valuesIn past) =
+      readout-writes old (omega arith) ∙ rw (drop-of-length-le old {i = size} (omega arith), append-nil (message (valuesIn past))) in
+      ap parsed only ∙ reads-back (valuesIn past) (values-fit past)

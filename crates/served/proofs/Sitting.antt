@@ -10,7 +10,7 @@ use Rattle.commands.specs.declared.Entry.the-variants as entry
 use Rattle.commands.specs.declared.Echo.{Echo}
 use Rattle.commands.specs.declared.Echo.the-variants as echo
 use Rattle.panel.specs.Panel.{startOf}
-use Rattle.commands.specs.Answers.{World, plain}
+use Rattle.commands.specs.Answers.{World}
 use Rattle.steps.specs.Step.{withState, step}
 use Rattle.desk.specs.Desk.{entered}
 use Rattle.served.specs.Served.{answered, endOf, Part, atFirst, parts, firstRun, next, lastOf, answersOf, lastRun, inPlace, saidTo}
@@ -46,6 +46,7 @@ said-is (entry.Start time supcode custcode ∷ es) w =
 said-is (entry.Put c ∷ es) w =
     ap (λ (l : List Echo). echo.Said ((step c w) .1) ∷ l) (said-is es ((step c w) .0))
     ∙ ap (inPlace (entry.Put c ∷ es)) (sym (answers-on c (atFirst es) w (parts es)))
+said-is (entry.Parse p ∷ es) w = ap (λ (l : List Echo). echo.Parse p ∷ l) (said-is es w)
 
 end-is : (es : List Entry) (w : World) → (sitting es w) .1 ≡ endOf (lastRun es w)
 unfolding sitting entered lastRun firstRun atFirst parts lastOf next endOf
@@ -54,6 +55,7 @@ end-is (entry.Nothing ∷ es) w = end-is es w
 end-is (entry.Unknown ∷ es) w = end-is es w
 end-is (entry.Start time supcode custcode ∷ es) w = end-is es (withState w (startOf time supcode custcode .state))
 end-is (entry.Put c ∷ es) w = end-is es ((step c w) .0) ∙ sym (end-on c (atFirst es) w (parts es))
+end-is (entry.Parse p ∷ es) w = end-is es w
 
 -- LINES ONE AFTER ANOTHER ARE RUNS ONE AFTER ANOTHER
 pub sitting-runs : (es : List Entry) (w : World) → sitting es w ≡ (saidTo es w, endOf (lastRun es w))

@@ -13,7 +13,7 @@ use Rattle.commands.specs.declared.Entry.{Entry}
 use Rattle.commands.specs.declared.Entry.the-variants as entry
 use Rattle.commands.specs.declared.Echo.{Echo}
 use Rattle.commands.specs.declared.Echo.the-variants as echo
-use Rattle.commands.specs.Answers.{World, plain}
+use Rattle.commands.specs.Answers.{World}
 use Rattle.steps.specs.Step.{step}
 use Rattle.desk.specs.Desk.{worldIn, entered}
 use Rattle.desk.specs.Desk as desk
@@ -58,6 +58,7 @@ module _ (time supcode custcode : ℕ) (after : List Entry) where
   first-ends (entry.Unknown ∷ es) = first-ends es
   first-ends (entry.Start t a b ∷ es) = refl
   first-ends (entry.Put c ∷ es) = ap (λ (l : List Command). c ∷ l) (first-ends es)
+  first-ends (entry.Parse p ∷ es) = first-ends es
 
   parts-split : (before : List Entry) → parts (before ++ (entry.Start time supcode custcode ∷ after)) ≡ parts before ++ (here ∷ parts after)
   unfolding parts
@@ -66,6 +67,7 @@ module _ (time supcode custcode : ℕ) (after : List Entry) where
   parts-split (entry.Unknown ∷ es) = parts-split es
   parts-split (entry.Start t a b ∷ es) = rw (first-ends es, parts-split es)
   parts-split (entry.Put c ∷ es) = parts-split es
+  parts-split (entry.Parse p ∷ es) = parts-split es
 
   last-split : (r : Run) (ps : List Part) (p : Part) (qs : List Part) → lastOf r (ps ++ (p ∷ qs)) ≡ lastOf (next p (lastOf r ps)) qs
   unfolding lastOf

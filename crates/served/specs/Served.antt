@@ -1,5 +1,5 @@
 -- Lines put to a desk, read as runs. The commands among them are the steps. A start begins a new run, over the stores as they then stand. An empty
--- line is answered by nothing and an unknown one by `?`; neither is a step.
+-- line is answered by nothing, an unknown one by `?`, and a message by what the reader says of it; none of these is a step.
 -- Assumes nothing.
 use Prim.Native.Nat.{ℕ, _-_}
 use mathlib.Core.Path.{_≡_}
@@ -52,6 +52,7 @@ atFirst (entry.Nothing ∷ es) = atFirst es
 atFirst (entry.Unknown ∷ es) = atFirst es
 atFirst (entry.Start time supcode custcode ∷ es) = []
 atFirst (entry.Put c ∷ es) = c ∷ atFirst es
+atFirst (entry.Parse p ∷ es) = atFirst es
 
 -- each start, with the commands between it and the next
 unfoldable pub parts : List Entry → List Part
@@ -60,6 +61,7 @@ parts (entry.Nothing ∷ es) = parts es
 parts (entry.Unknown ∷ es) = parts es
 parts (entry.Start time supcode custcode ∷ es) = record { time = time; supcode = supcode; custcode = custcode; steps = atFirst es } ∷ parts es
 parts (entry.Put c ∷ es) = parts es
+parts (entry.Parse p ∷ es) = parts es
 
 -- the first run goes on with the device that is there
 unfoldable pub firstRun : List Entry → World → Run
@@ -96,6 +98,7 @@ inPlace (entry.Start time supcode custcode ∷ es) [] = []
 inPlace (entry.Start time supcode custcode ∷ es) (r ∷ rs) = echo.Said r ∷ inPlace es rs
 inPlace (entry.Put c ∷ es) [] = []
 inPlace (entry.Put c ∷ es) (r ∷ rs) = echo.Said r ∷ inPlace es rs
+inPlace (entry.Parse p ∷ es) rs = echo.Parse p ∷ inPlace es rs
 
 unfoldable pub saidTo : List Entry → World → List Echo
 saidTo es w = inPlace es (answersOf (firstRun es w) (parts es))

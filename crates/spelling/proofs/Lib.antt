@@ -2,3 +2,5 @@
 pub mod Puts
 pub mod Spelled
 pub mod Lent
+pub mod Alike
+pub mod Said

@@ -24,13 +24,13 @@ bounds base e =
     let most : base ≤ 16 = leb-true base 16 (and-right (leb 2 base) (leb base 16) e) in
     (leb-true 2 base (and-left (leb 2 base) (leb base 16) e), omega arith)
 
-pub spelled : (old : List ℕ) (base n : ℕ) → spellable base ≡ true → digits base (length old) n ≡ digitsOver old base n
+pub in-base : (old : List ℕ) (base n : ℕ) → spellable base ≡ true → digits base (length old) n ≡ digitsOver old base n
 unfolding digitsOver
-spelled old base n e = rw e
+in-base old base n e = rw e
 
-pub not-spelled : (old : List ℕ) (base n : ℕ) → spellable base ≡ false → old ≡ digitsOver old base n
+pub not-in-base : (old : List ℕ) (base n : ℕ) → spellable base ≡ false → old ≡ digitsOver old base n
 unfolding digitsOver
-not-spelled old base n e = rw e
+not-in-base old base n e = rw e
 
 -- what stands from a place on after a store there
 stored : (l : List ℕ) (p g : ℕ) → p < length l → drop p (set l p g) ≡ g ∷ drop (suc p) l

@@ -1,18 +1,25 @@
 -- Texts and digits as bytes, and a text put at a place of lent bytes.
 -- Assumes nothing.
-use Prim.Native.Nat.{ℕ, zero, suc, _+_, _-_, _/_, _%_, _≤_}
+use Prim.Native.Nat.{ℕ, zero, suc, _+_, _-_, _*_, _/_, _%_, _≤_}
 use Prim.Native.Char.{code as byte}
 use Prim.Native.String.{String, [] as empty, _∷_ as _then_}
 use mathlib.Core.Path.{_≡_}
-use mathlib.Core.Bool.{Bool, cond, _&&_}
+use mathlib.Core.Bool.{Bool, true, false, cond, _&&_}
 use mathlib.Core.List.{List, [], _∷_, _++_}
-use lib.Dec.{ltb, leb}
-use lib.ListN.{length, take, drop}
+use lib.Dec.{ltb, leb, eqb}
+use lib.ListN.{length, getD, take, drop}
 
 -- the bytes of a text of plain characters, one byte each
 abbrev pub bytes : String → List ℕ
 bytes empty = []
 bytes (c then s) = byte c ∷ bytes s
+
+-- two texts are the same, byte by byte
+unfoldable pub sameB : List ℕ → List ℕ → Bool
+sameB [] [] = true
+sameB [] (b ∷ bs) = false
+sameB (a ∷ as₁) [] = false
+sameB (a ∷ as₁) (b ∷ bs) = eqb a b && sameB as₁ bs
 
 -- ---- digits
 
@@ -32,6 +39,17 @@ spellable base = leb 2 base && leb base 16
 -- the bytes that are lent become digits of n, all of them; in a base without glyphs they stay
 unfoldable pub digitsOver : List ℕ → ℕ → ℕ → List ℕ
 digitsOver old base n = cond (spellable base) (digits base (length old) n) old
+
+-- ---- digits read
+
+-- `0` to `9` are 0 to 9, `a` to `f` are 10 to 15, and any other byte is no digit: 16
+unfoldable pub digitOf : ℕ → ℕ
+digitOf b = cond (ltb b (byte "0")) 16 (cond (ltb b (byte "9" + 1)) (b - byte "0") (cond (ltb b (byte "a")) 16 (cond (ltb b (byte "f" + 1)) (b - (byte "a" - 10)) 16)))
+
+-- the number that the first k digits of a text spell
+unfoldable pub spelled : ℕ → List ℕ → ℕ → ℕ
+spelled base w zero = 0
+spelled base w (suc k) = base * spelled base w k + digitOf (getD w k 0)
 
 -- ---- a text put at a place
 

@@ -1,11 +1,29 @@
-// Texts and digits put into bytes that the caller lends. How many digits a number gets is the length of what is lent.
+// Texts and digits put into bytes that the caller lends, and read from them. How many digits a number gets is the length of what is lent.
 ghost use mathlib.Core.Path.{_≡_};
 ghost use Prim.Native.Nat.{_<_, min};
 ghost use lib.ListN.{length};
-ghost use Rattle.spelling.specs.Spelling.{glyph, digits, spellable, digitsOver, textOver};
+ghost use Rattle.spelling.specs.Spelling.{sameB, glyph, digits, spellable, digitsOver, digitOf, textOver};
+
+pub fn same(a: &[u8], b: &[u8]) -> bool
+    ensures { λ r. ⌜ r ≡ sameB (now (a .entry)) (now (b .entry)) ⌝ }
+{
+    if a.len() != b.len() {
+        return false;
+    }
+    let mut i = 0;
+    while i < a.len() {
+        if a[i] != b[i] {
+            return false;
+        }
+        i += 1;
+    }
+    true
+}
+
+// ---- digits
 
 // Added to a digit from 10 to 15 it gives the letter.
-pub const LETTERS: u8 = b'a' - 10;
+const LETTERS: u8 = b'a' - 10;
 
 fn glyph_of(d: u64) -> u8
     requires { ⌜ d < 16 ⌝ }
@@ -50,6 +68,34 @@ pub fn digits_into(part: &mut [u8], base: u64, n: u64)
         return;
     }
 }
+
+// Larger than any digit.
+const NO_DIGIT: u64 = 16;
+
+const PAST_NINE: u8 = b'9' + 1;
+
+const PAST_F: u8 = b'f' + 1;
+
+// `0` to `9`, and `a` to `f` for 10 to 15.
+pub fn digit_of(b: u8) -> u64
+    ensures { λ r. ⌜ r ≡ digitOf b ⌝ }
+{
+    if b < b'0' {
+        return NO_DIGIT;
+    }
+    if b < PAST_NINE {
+        return (b - b'0') as u64;
+    }
+    if b < b'a' {
+        return NO_DIGIT;
+    }
+    if b < PAST_F {
+        return (b - LETTERS) as u64;
+    }
+    NO_DIGIT
+}
+
+// ---- texts
 
 fn shorter(a: usize, b: usize) -> usize
     ensures { λ r. ⌜ r ≡ min a b ⌝ }

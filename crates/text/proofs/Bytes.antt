@@ -1,7 +1,7 @@
 -- Laws for the loops that go through a line byte by byte.
 -- Assumes nothing.
 use mathlib.Core.Path.{_≡_, refl, sym, ap, _∙_}
-use mathlib.Core.Bool.{Bool, true, false, cond, _&&_}
+use mathlib.Core.Bool.{Bool, true, false, cond}
 use mathlib.Core.List.{List, [], _∷_, _++_}
 use Prim.Native.Nat.{ℕ, suc, _+_, _-_, _≤_, _<_, zero-le, suc-le-suc}
 use native.Mathlib.Nat.{add-comm, le-refl}
@@ -11,7 +11,7 @@ use lib.Dec.{eqb, ltb}
 use lib.ListN.{length, getD, take, drop, set, length-drop}
 use lib.Seq.{drop-cons, drop-length, take-all, take-take, length-take-le, getD-drop, take-suc, take-suc-set, drop-set-lt, drop-drop}
 use borrow.Author.Tests.{eq-eqb, ne-eqb, ltb-true, ltb-false, lt-ltb, le-ltb}
-use Rattle.text.specs.Words.{firstOf, sameB, deciding, keptOf, keptPart, Kept}
+use Rattle.text.specs.Words.{firstOf, deciding, keptOf, keptPart, Kept}
 
 -- what is left from a place on, taken as a part of the slice
 pub the-rest : (l : List ℕ) (at : ℕ) → take (length l - at) (drop at l) ≡ drop at l
@@ -39,32 +39,6 @@ pub within : (b : ℕ) (l : List ℕ) → firstOf b l ≤ length l
 unfolding firstOf
 within b [] = zero-le
 within b (x ∷ l) = by-test (eqb x b) (firstOf b l) (length l) (within b l)
-
-pub other-length : (a b : List ℕ) → (length a ≡ length b → ⊥) → sameB a b ≡ false
-unfolding sameB
-other-length [] [] h = absurd (h refl)
-other-length [] (y ∷ b) h = refl
-other-length (x ∷ a) [] h = refl
-other-length (x ∷ a) (y ∷ b) h = and-false (eqb x y) (other-length a b (λ e. h (ap suc e)))
-  where
-    and-false : (c : Bool) {d : Bool} → d ≡ false → (c && d) ≡ false
-    and-false true e = e
-    and-false false e = refl
-
--- equal bytes are passed
-pub passes-both : (a b : List ℕ) (i : ℕ) → i < length a → i < length b → getD a i 0 ≡ getD b i 0
-    → sameB (drop i a) (drop i b) ≡ sameB (drop (suc i) a) (drop (suc i) b)
-unfolding sameB
-passes-both a b i h k e = rw (drop-cons a i 0 h, drop-cons b i 0 k, eq-eqb (getD a i 0) (getD b i 0) e)
-
-pub stops-both : (a b : List ℕ) (i : ℕ) → i < length a → i < length b → (getD a i 0 ≡ getD b i 0 → ⊥)
-    → sameB (drop i a) (drop i b) ≡ false
-unfolding sameB
-stops-both a b i h k e = rw (drop-cons a i 0 h, drop-cons b i 0 k, ne-eqb (getD a i 0) (getD b i 0) e)
-
-pub both-end : (a b : List ℕ) → length a ≡ length b → sameB (drop (length a) a) (drop (length a) b) ≡ true
-unfolding sameB
-both-end a b e = rw (drop-length a, e, drop-length b)
 
 -- ---- an unfinished line
 

@@ -12,10 +12,11 @@ use borrow.Author.Tests.{lt-leb, le-leb, lt-ltb, le-ltb}
 use Rattle.ground.specs.Below.{allBelow}
 use Rattle.ground.proofs.Every.{all-each}
 use Rattle.ground.proofs.Flags.{Either, is-true, is-false, either-of}
+use Rattle.spelling.specs.Spelling.{digitOf, spelled}
 use Rattle.text.specs.declared.numbers.Number.{Number}
 use Rattle.text.specs.declared.numbers.Number.the-variants as number
 use Rattle.text.specs.declared.numbers.Wanted.the-variants as wanted
-use Rattle.text.specs.Numbers.{wholeOf, digitOf, digitAt, spelled, largest, isNumber, numberIn}
+use Rattle.text.specs.Numbers.{wholeOf, digitAt, largest, isNumber, numberIn}
 
 pub fits : (base d v : ℕ) → 0 < base → d ≤ largest → v ≤ (largest - d) / base → base * v + d ≤ largest
 fits base d v p q h =
@@ -56,10 +57,6 @@ no-digit-at base w k e h = le-ltb (digitOf (getD w k 0)) base (omega arith)
 pub digit-at : (base : ℕ) (w : List ℕ) (k : ℕ) {d : ℕ} → d ≡ digitOf (getD w k 0) → d < base → digitAt base w k ≡ true
 unfolding digitAt
 digit-at base w k e h = lt-ltb (digitOf (getD w k 0)) base (omega arith)
-
-pub one-more : (base : ℕ) (w : List ℕ) (k : ℕ) {d v : ℕ} → d ≡ digitOf (getD w k 0) → v ≡ spelled base w k → base * v + d ≡ spelled base w (suc k)
-unfolding spelled
-one-more base w k e h = rw (e, h)
 
 -- one byte that is no digit, and the word is no number
 pub no-digit : (base : ℕ) (w : List ℕ) (k : ℕ) → k < length w → digitAt base w k ≡ false → number.NotOne ≡ numberIn base w

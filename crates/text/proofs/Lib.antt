@@ -6,3 +6,4 @@ pub mod Digits
 pub mod Floats
 pub mod Lent
 pub mod Puts
+pub mod Unhexed

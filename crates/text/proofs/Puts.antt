@@ -13,9 +13,12 @@ use lib.ListN.{length, getD, take}
 use lib.Seq.{take-suc, take-all}
 use lib.IntN.{ℤ, pos, natAbs}
 use lib.Signed.{ltZ}
-use Rattle.spelling.specs.Spelling.{Put, digits}
+use Rattle.spelling.specs.Spelling.{Put, bytes, digits}
 use Rattle.spelling.proofs.Puts.{two, retext, nothing-put}
-use Rattle.text.specs.Echoes.{placesUpTo, places, decimal, spaced, signed, bitsOf, joined, valueWords, hexed, givenWords, echoText, enough, textFor}
+use Rattle.text.specs.Echoes.{placesUpTo, places, decimal, spaced, signed, bitsOf, joined, valueWords, hexed, givenWords, separated, litresWords, otherWords, parsedText, officeText, officeFor, echoText, enough, textFor}
+use Rattle.message.specs.declared.Values.{Values}
+use Rattle.reader.specs.declared.Parsed.{Parsed}
+use Rattle.reader.specs.declared.Parsed.the-variants.{Accepted, Refused}
 use Rattle.commands.specs.declared.Given.{Given}
 use Rattle.commands.specs.declared.Echo.{Echo}
 use lib.Ieee.{Float}
@@ -119,3 +122,29 @@ little-room old at e h = rw (lt-ltb (length old) (at + enough) h)
 pub room-for : (old : List ℕ) (at : ℕ) (e x : Echo) → at + enough ≤ length old → e ≡ x → echoText x ≡ textFor old at e
 unfolding textFor
 room-for old at e x h q = rw (le-ltb (length old) (at + enough) h, q)
+
+-- ---- a message that was read
+
+pub accepted-line : (p : Parsed) (v : Values) → p ≡ Accepted v → (48 ∷ []) ++ (spaced (decimal (v .vb)) ++ (joined (otherWords v) ++ (10 ∷ []))) ≡ parsedText p
+unfolding parsedText separated litresWords joined
+accepted-line p v e = rw e (ap (λ (l : List ℕ). 48 ∷ l) (sym (append-assoc (spaced (decimal (v .vb))) (joined (otherWords v)) (10 ∷ []))))
+
+pub refused-line : (p : Parsed) (n : ℕ) → p ≡ Refused n → decimal n ++ (10 ∷ []) ≡ parsedText p
+unfolding parsedText
+refused-line p n e = rw e
+
+pub accepted-office : (p : Parsed) (v : Values) → p ≡ Accepted v → decimal (v .vb) ++ (joined (otherWords v) ++ (10 ∷ [])) ≡ officeText p
+unfolding officeText separated litresWords
+accepted-office p v e = rw e (sym (append-assoc (decimal (v .vb)) (joined (otherWords v)) (10 ∷ [])))
+
+pub refused-office : (p : Parsed) (n : ℕ) → p ≡ Refused n → bytes "refused" ++ (spaced (decimal n) ++ (10 ∷ [])) ≡ officeText p
+unfolding officeText separated joined
+refused-office p n e = rw (e, append-nil (decimal n))
+
+pub little-office : (old : List ℕ) (p : Parsed) → length old < enough → [] ≡ officeFor old p
+unfolding officeFor
+little-office old p h = rw (lt-ltb (length old) enough h)
+
+pub office-for : (old : List ℕ) (p : Parsed) → enough ≤ length old → officeText p ≡ officeFor old p
+unfolding officeFor
+office-for old p h = rw (le-ltb (length old) enough h)

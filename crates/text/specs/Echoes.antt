@@ -27,7 +27,10 @@ use Rattle.commands.specs.declared.Reply.{Reply}
 use Rattle.commands.specs.declared.Echo.{Echo}
 use Rattle.commands.specs.declared.Echo.the-variants as echo
 use Rattle.spelling.specs.Spelling.{bytes, digits}
+use Rattle.message.specs.declared.Values.{Values}
 use Rattle.message.specs.Message.{written}
+use Rattle.reader.specs.declared.Parsed.{Parsed}
+use Rattle.reader.specs.declared.Parsed.the-variants.{Accepted, Refused}
 use Rattle.text.specs.Words.{space}
 
 -- ---- numbers
@@ -137,6 +140,30 @@ mostLent = 200
 unfoldable pub readoutWords : Readout → List (List ℕ)
 readoutWords x = hexed (written (x .values) (replicate (min (x .room) mostLent) unwritten)) ∷ []
 
+-- ---- a message that was read
+
+-- words in a row, a space between two
+unfoldable pub separated : List (List ℕ) → List ℕ
+separated [] = []
+separated (w ∷ ws) = w ++ joined ws
+
+-- V1 V2 V3 V4 V5 V6, in litres: the first, and the others
+unfoldable pub otherWords : Values → List (List ℕ)
+otherWords v = numberWords (v .vbd) (v .vbt) (v .vm) (v .vmd) ++ (decimal (v .vmt) ∷ [])
+
+unfoldable pub litresWords : Values → List (List ℕ)
+litresWords v = decimal (v .vb) ∷ otherWords v
+
+-- `0` and the values, or the number of the refusal
+unfoldable pub parsedText : Parsed → List ℕ
+parsedText (Accepted v) = separated (bytes "0" ∷ litresWords v) ++ bytes "\n"
+parsedText (Refused n) = decimal n ++ bytes "\n"
+
+-- what the office's program prints: "the six values in litres with single spaces and a line feed, or `refused `, the number and a line feed"
+unfoldable pub officeText : Parsed → List ℕ
+officeText (Accepted v) = separated (litresWords v) ++ bytes "\n"
+officeText (Refused n) = separated (bytes "refused" ∷ decimal n ∷ []) ++ bytes "\n"
+
 -- ---- lines
 
 -- what is given beside the number
@@ -163,6 +190,7 @@ unfoldable pub echoText : Echo → List ℕ
 echoText echo.Nothing = []
 echoText echo.Unknown = unknownText
 echoText (echo.Said r) = saidText r
+echoText (echo.Parse p) = parsedText p
 
 -- room enough for any line; where there is less, nothing is put
 abbrev pub enough : ℕ
@@ -170,3 +198,6 @@ enough = 422
 
 unfoldable pub textFor : List ℕ → ℕ → Echo → List ℕ
 textFor out at e = cond (ltb (length out) (at + enough)) [] (echoText e)
+
+unfoldable pub officeFor : List ℕ → Parsed → List ℕ
+officeFor out p = cond (ltb (length out) enough) [] (officeText p)

@@ -27,9 +27,10 @@ use Rattle.text.specs.declared.numbers.ComputedReading.{ComputedReading}
 use Rattle.text.specs.declared.numbers.ComputedReading.the-variants as computedReading
 use Rattle.text.specs.declared.numbers.Wanted.{Wanted}
 use Rattle.text.specs.declared.numbers.Wanted.the-variants as wanted
-use Rattle.spelling.specs.Spelling.{bytes}
-use Rattle.text.specs.Words.{sameB, word, noWord}
+use Rattle.spelling.specs.Spelling.{bytes, sameB}
+use Rattle.text.specs.Words.{word, noWord}
 use Rattle.text.specs.Echoes.{mostLent}
+use Rattle.text.specs.Hex.{parseAsked}
 use Rattle.text.specs.Numbers.{numberIn, codeOf, readingOf, rawBy, pressureBy, computedBy, valueIn}
 
 -- a longer line is no command
@@ -40,7 +41,7 @@ longest = 500
 unfoldable pub isQuiet : List ℕ → Bool
 isQuiet line = eqb (length line) 0 || eqb (getD line 0 0) (byte "#")
 
--- ---- a word alone, and a word with one, two or three numbers: a row for each
+-- ---- a word alone, and a word with one, two or three numbers: a row for each. `parse` has hexadecimal digits in the place of a number
 
 -- report; clear; outputs
 unfoldable pub alone : List ℕ → Entry
@@ -71,6 +72,10 @@ withOne w n =
 unfoldable pub oneOr : List ℕ → Number → Entry
 oneOr w number.NotOne = entry.Unknown
 oneOr w (number.Is n) = withOne w n
+
+-- parse HEX; any other word has a number
+unfoldable pub wordOr : List ℕ → Number → List ℕ → Entry
+wordOr w number x = cond (sameB w (bytes "parse")) (parseAsked x) (oneOr w number)
 
 -- read DOOR SETTING; open LOCK CODE
 unfoldable pub openBy : ℕ → Code → Entry
@@ -147,7 +152,7 @@ readingAt line k = readingOf (word line k)
 unfoldable pub entryIn : List ℕ → Entry
 entryIn line =
     cond (noWord line 1) (alone (word line 0))
-    (cond (noWord line 2) (oneOr (word line 0) (numberAt line 1))
+    (cond (noWord line 2) (wordOr (word line 0) (numberAt line 1) (word line 1))
     (cond (noWord line 3) (twoOr (word line 0) (numberAt line 1) (numberAt line 2))
     (cond (noWord line 4) (threeOr (word line 0) (numberAt line 1) (numberAt line 2) (numberAt line 3))
     (cond (noWord line 5) (valueOr (word line 0) (numberAt line 1) (numberAt line 2) (valueIn (word line 3) (word line 4)))

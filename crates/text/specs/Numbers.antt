@@ -27,23 +27,13 @@ use Rattle.text.specs.declared.numbers.ComputedReading.{ComputedReading}
 use Rattle.text.specs.declared.numbers.ComputedReading.the-variants as computedReading
 use Rattle.text.specs.declared.numbers.Wanted.{Wanted}
 use Rattle.text.specs.declared.numbers.Wanted.the-variants as wanted
-use Rattle.spelling.specs.Spelling.{bytes}
-use Rattle.text.specs.Words.{sameB}
+use Rattle.spelling.specs.Spelling.{bytes, sameB, digitOf, spelled}
 
 -- ---- numbers
-
--- `0` to `9` are 0 to 9, `a` to `f` are 10 to 15, and any other byte is no digit: 16
-unfoldable pub digitOf : ℕ → ℕ
-digitOf b = cond (ltb b (byte "0")) 16 (cond (ltb b (byte "9" + 1)) (b - byte "0") (cond (ltb b (byte "a")) 16 (cond (ltb b (byte "f" + 1)) (b - (byte "a" - 10)) 16)))
 
 -- byte k of a word is a digit of this base
 unfoldable pub digitAt : ℕ → List ℕ → ℕ → Bool
 digitAt base w k = ltb (digitOf (getD w k 0)) base
-
--- the number that the first k digits of a word spell
-unfoldable pub spelled : ℕ → List ℕ → ℕ → ℕ
-spelled base w zero = 0
-spelled base w (suc k) = base * spelled base w k + digitOf (getD w k 0)
 
 -- the largest number of 64 bits
 abbrev pub largest : ℕ

@@ -37,13 +37,6 @@ word line k = wordBetween line (place line k) (place line (suc k))
 unfoldable pub noWord : List ℕ → ℕ → Bool
 noWord line k = ltb (length line) (place line k)
 
--- two words are the same, byte by byte
-unfoldable pub sameB : List ℕ → List ℕ → Bool
-sameB [] [] = true
-sameB [] (b ∷ bs) = false
-sameB (a ∷ as₁) [] = false
-sameB (a ∷ as₁) (b ∷ bs) = eqb a b && sameB as₁ bs
-
 -- ---- an unfinished line, kept until more of it is read
 
 -- how many bytes of it decide its answer: one more than a command may have (proved in proofs/Cut.antt)

@@ -4,13 +4,15 @@ use commands::Echo;
 use commands::Given;
 use commands::Readout;
 use commands::Reply;
+use message::Values;
+use reader::Parsed;
 ghost use mathlib.Core.Path.{_≡_};
 ghost use mathlib.Core.List.{[], _∷_};
 ghost use Prim.Native.Nat.{_+_, _*_, _≤_, _<_, min};
 ghost use lib.ListN.{length, replicate};
 ghost use lib.IntN.{natAbs};
 ghost use Rattle.spelling.specs.Spelling.{Put, digits};
-ghost use Rattle.text.specs.Echoes.{places, decimal, spaced, flag, signed, bitsOf, valueWords, joined, flagWords, numberWords, archiveWords, logWords, auditWords, counterWords, lampWords, momentWords, emittedWords, outputWords, outputsWords, hexed, unwritten, mostLent, readoutWords, givenWords, saidText, unknownText, textFor};
+ghost use Rattle.text.specs.Echoes.{places, decimal, spaced, flag, signed, bitsOf, valueWords, joined, flagWords, numberWords, archiveWords, logWords, auditWords, counterWords, lampWords, momentWords, emittedWords, outputWords, outputsWords, hexed, unwritten, mostLent, readoutWords, otherWords, parsedText, officeText, officeFor, givenWords, saidText, unknownText, textFor};
 
 // Room for any line. The longest tells of a readout: a number of at most 20 digits, a space, and two digits for each byte of the longest buffer that is lent.
 pub const ROOM: usize = 422;
@@ -55,6 +57,14 @@ fn put_digits(out: &mut [u8], at: usize, base: u64, k: usize, n: u64) -> usize
     next
 }
 
+fn put_decimal(out: &mut [u8], at: usize, n: u64) -> usize
+    requires { ⌜ at + 20 ≤ length (now out) ⌝ }
+    ensures { λ r. ⌜ Put 20 (now (out .entry)) (now (out .exit)) at r (decimal n) ⌝ }
+{
+    let k = places_of(n);
+    put_digits(out, at, 10, k, n)
+}
+
 // ---- words, each after a space
 
 fn put_number(out: &mut [u8], at: usize, n: u64) -> usize
@@ -62,8 +72,7 @@ fn put_number(out: &mut [u8], at: usize, n: u64) -> usize
     ensures { λ r. ⌜ Put 21 (now (out .entry)) (now (out .exit)) at r (spaced (decimal n)) ⌝ }
 {
     let next = put_byte(out, at, b' ');
-    let k = places_of(n);
-    put_digits(out, next, 10, k, n)
+    put_decimal(out, next, n)
 }
 
 fn flag_of(on: bool) -> u8
@@ -312,6 +321,72 @@ fn put_readout(out: &mut [u8], at: usize, x: Readout) -> usize
     put_hex(out, next, &buffer[..n])
 }
 
+// ---- a message that was read
+
+fn put_text(out: &mut [u8], at: usize, text: &[u8]) -> usize
+    requires { ⌜ at + length (now text) ≤ length (now out) ⌝ }
+    ensures { λ r. ⌜ Put (length (now (text .entry))) (now (out .entry)) (now (out .exit)) at r (now (text .entry)) ⌝ }
+{
+    let next = at + text.len();
+    spelling::text_into(&mut out[at..next], text);
+    next
+}
+
+// The values behind the first.
+fn put_others(out: &mut [u8], at: usize, v: Values) -> usize
+    requires { ⌜ at + 105 ≤ length (now out) ⌝ }
+    ensures { λ r. ⌜ Put 105 (now (out .entry)) (now (out .exit)) at r (joined (otherWords v)) ⌝ }
+{
+    let next = put_four(out, at, v.vbd, v.vbt, v.vm, v.vmd);
+    put_number(out, next, v.vmt)
+}
+
+fn parsed_line(out: &mut [u8], at: usize, p: Parsed) -> usize
+    requires { ⌜ at + 422 ≤ length (now out) ⌝ }
+    ensures { λ r. ⌜ Put 422 (now (out .entry)) (now (out .exit)) at r (parsedText p) ⌝ }
+{
+    match p {
+        Parsed::Accepted(v) => {
+            let next = put_byte(out, at, b'0');
+            let others = put_number(out, next, v.vb);
+            let last = put_others(out, others, v);
+            put_byte(out, last, LINE_FEED)
+        }
+        Parsed::Refused(n) => {
+            let next = put_decimal(out, at, n);
+            put_byte(out, next, LINE_FEED)
+        }
+    }
+}
+
+fn office_text(out: &mut [u8], p: Parsed) -> usize
+    requires { ⌜ 422 ≤ length (now out) ⌝ }
+    ensures { λ r. ⌜ Put 422 (now (out .entry)) (now (out .exit)) 0 r (officeText p) ⌝ }
+{
+    match p {
+        Parsed::Accepted(v) => {
+            let others = put_decimal(out, 0, v.vb);
+            let last = put_others(out, others, v);
+            put_byte(out, last, LINE_FEED)
+        }
+        Parsed::Refused(n) => {
+            let next = put_text(out, 0, b"refused");
+            let last = put_number(out, next, n);
+            put_byte(out, last, LINE_FEED)
+        }
+    }
+}
+
+// What the office's program prints, at the front. Puts nothing if there is less than ROOM.
+pub fn office_line(out: &mut [u8], p: Parsed) -> usize
+    ensures { λ r. ⌜ Put 422 (now (out .entry)) (now (out .exit)) 0 r (officeFor (now (out .entry)) p) ⌝ }
+{
+    if out.len() < ROOM {
+        return 0;
+    }
+    office_text(out, p)
+}
+
 // ---- lines
 
 fn put_given(out: &mut [u8], at: usize, g: Given) -> usize
@@ -337,8 +412,7 @@ fn said_line(out: &mut [u8], at: usize, reply: Reply) -> usize
 {
     let n = reply.number;
     let given = reply.given;
-    let k = places_of(n);
-    let next = put_digits(out, at, 10, k, n);
+    let next = put_decimal(out, at, n);
     let last = put_given(out, next, given);
     put_byte(out, last, LINE_FEED)
 }
@@ -365,5 +439,6 @@ pub fn echo_line(out: &mut [u8], at: usize, echo: Echo) -> usize
         Echo::Nothing => at,
         Echo::Unknown => unknown_line(out, at),
         Echo::Said(reply) => said_line(out, at, reply),
+        Echo::Parse(p) => parsed_line(out, at, p),
     }
 }

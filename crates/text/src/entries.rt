@@ -1,5 +1,6 @@
 // A line read as an entry. Its first word and how many words it has say which entry; the other words are numbers, readings or a value.
 use crate::echoes::MOST_LENT;
+use crate::hex::parse_asked;
 use crate::numbers::Code;
 use crate::numbers::ComputedReading;
 use crate::numbers::Number;
@@ -10,7 +11,6 @@ use crate::numbers::Wanted;
 use crate::numbers::code_of;
 use crate::words::LONGEST;
 use crate::words::after_word;
-use crate::words::same;
 use crate::words::word_between;
 use commands::Act;
 use commands::Brought;
@@ -18,10 +18,11 @@ use commands::Command;
 use commands::Entry;
 use commands::LockTurn;
 use commands::Question;
+use spelling::same;
 ghost use mathlib.Core.Path.{_≡_};
 ghost use Rattle.text.specs.Words.{wordBetween};
 ghost use Rattle.text.specs.Numbers.{numberIn, readingOf};
-ghost use Rattle.text.specs.Entries.{isQuiet, alone, readoutAsked, withOne, oneOr, openBy, withTwo, twoOr, startBy, withThree, threeOr, withValue, valueOr, withReadings, readingsOr, entryIn, entryOf};
+ghost use Rattle.text.specs.Entries.{isQuiet, alone, readoutAsked, withOne, oneOr, wordOr, openBy, withTwo, twoOr, startBy, withThree, threeOr, withValue, valueOr, withReadings, readingsOr, entryIn, entryOf};
 
 // An empty line, or one that begins with `#`, gets no answer.
 fn is_quiet(line: &[u8]) -> bool
@@ -33,7 +34,7 @@ fn is_quiet(line: &[u8]) -> bool
     line[0] == b'#'
 }
 
-// ---- a word alone, and a word with one, two or three numbers: a row for each
+// ---- a word alone, and a word with one, two or three numbers: a row for each. `parse` has hexadecimal digits in the place of a number
 
 fn alone(w: &[u8]) -> Entry
     ensures { λ r. ⌜ r ≡ alone (now (w .entry)) ⌝ }
@@ -101,6 +102,15 @@ fn one_or(w: &[u8], number: Number) -> Entry
         return Entry::Unknown;
     };
     with_one(w, n)
+}
+
+fn word_or(w: &[u8], number: Number, x: &[u8]) -> Entry
+    ensures { λ r. ⌜ r ≡ wordOr (now (w .entry)) number (now (x .entry)) ⌝ }
+{
+    if same(w, b"parse") {
+        return parse_asked(x);
+    }
+    one_or(w, number)
 }
 
 fn open_by(lock: u64, code: Code) -> Entry
@@ -273,7 +283,7 @@ fn entry_in(line: &[u8]) -> Entry
     let a = number_at(line, first, second);
     let two = line.len() < second;
     if two {
-        return one_or(w, a);
+        return word_or(w, a, word_between(line, first, second));
     }
     let third = after_word(line, second);
     let b = number_at(line, second, third);

@@ -2,7 +2,7 @@
 ghost use mathlib.Core.Path.{_≡_};
 ghost use Prim.Native.Nat.{_<_, _≤_};
 ghost use lib.Ieee.{ofBits, binary64};
-ghost use Rattle.text.specs.Numbers.{digitOf, numberIn, hexOf, codeOf, readingOf, rawBy, pressureBy, computedBy, wholeOf, wholeBy, belowZero, coefficientBy, valueIn};
+ghost use Rattle.text.specs.Numbers.{numberIn, hexOf, codeOf, readingOf, rawBy, pressureBy, computedBy, wholeOf, wholeBy, belowZero, coefficientBy, valueIn};
 
 pub enum Number {
     NotOne,
@@ -42,37 +42,11 @@ pub enum Wanted {
     Is(settings::Value),
 }
 
-// Larger than any digit.
-const NO_DIGIT: u64 = 16;
-
-const PAST_NINE: u8 = b'9' + 1;
-
-const PAST_F: u8 = b'f' + 1;
-
 // The bits of an infinity, its sign left out. Every larger pattern is a NaN's.
 const INFINITE: u64 = 0x7ff0_0000_0000_0000;
 
 // The weight of an f64's sign bit.
 const SIGN: u64 = 0x8000_0000_0000_0000;
-
-// `0` to `9`, and `a` to `f` for 10 to 15.
-fn digit_of(b: u8) -> u64
-    ensures { λ r. ⌜ r ≡ digitOf b ⌝ }
-{
-    if b < b'0' {
-        return NO_DIGIT;
-    }
-    if b < PAST_NINE {
-        return (b - b'0') as u64;
-    }
-    if b < b'a' {
-        return NO_DIGIT;
-    }
-    if b < PAST_F {
-        return (b - spelling::LETTERS) as u64;
-    }
-    NO_DIGIT
-}
 
 fn number_in(base: u64, w: &[u8]) -> Number
     requires { ⌜ (0 < base) × (base ≤ 16) ⌝ }
@@ -84,7 +58,7 @@ fn number_in(base: u64, w: &[u8]) -> Number
     let mut value: u64 = 0;
     let mut i = 0;
     while i < w.len() {
-        let d = digit_of(w[i]);
+        let d = spelling::digit_of(w[i]);
         if base <= d {
             return Number::NotOne;
         }
@@ -126,7 +100,7 @@ pub fn code_of(n: u64) -> Code
 pub fn reading_of(w: &[u8]) -> Reading
     ensures { λ r. ⌜ r ≡ readingOf (now (w .entry)) ⌝ }
 {
-    let none = crate::words::same(w, b"-");
+    let none = spelling::same(w, b"-");
     if none {
         return Reading::Missing;
     }
@@ -240,11 +214,11 @@ fn coefficient_by(n: Number) -> Wanted
 pub fn value_in(kind: &[u8], w: &[u8]) -> Wanted
     ensures { λ r. ⌜ r ≡ valueIn (now (kind .entry)) (now (w .entry)) ⌝ }
 {
-    let whole = crate::words::same(kind, b"w");
+    let whole = spelling::same(kind, b"w");
     if whole {
         return whole_of(w);
     }
-    let coefficient = crate::words::same(kind, b"c");
+    let coefficient = spelling::same(kind, b"c");
     if coefficient {
         return coefficient_by(hex_of(w));
     }

@@ -1,6 +1,6 @@
 // A line and its words. Words are separated by single spaces, so a double space, or one at either end, makes an empty word.
 ghost use mathlib.Core.Path.{_≡_};
-ghost use Rattle.text.specs.Words.{firstOf, afterWord, wordBetween, sameB, keptOf, Kept};
+ghost use Rattle.text.specs.Words.{firstOf, afterWord, wordBetween, keptOf, Kept};
 
 // What ends a line.
 pub const LINE_FEED: u8 = b'\n';
@@ -48,22 +48,6 @@ pub fn word_between(line: &[u8], at: usize, next: usize) -> &[u8]
         return &line[at..];
     }
     &line[at..end]
-}
-
-pub fn same(a: &[u8], b: &[u8]) -> bool
-    ensures { λ r. ⌜ r ≡ sameB (now (a .entry)) (now (b .entry)) ⌝ }
-{
-    if a.len() != b.len() {
-        return false;
-    }
-    let mut i = 0;
-    while i < a.len() {
-        if a[i] != b[i] {
-            return false;
-        }
-        i += 1;
-    }
-    true
 }
 
 // How much of an unfinished line is kept: one byte more than a command may have, so that a line that is too long stays too long.

@@ -12,6 +12,7 @@ use ground::both;
 use print::end;
 use print::number;
 use print::text;
+use reader::Parsed;
 use state::State;
 use text::words::LINE_FEED;
 
@@ -100,6 +101,15 @@ fn started(s: State, time: u64, supcode: u32, custcode: u32) {
     fate(s, after, true);
 }
 
+// The reader is lent no state.
+fn parsed(s: State, p: Parsed) {
+    match p {
+        Parsed::Accepted(_) => number(state::faults::DONE),
+        Parsed::Refused(n) => number(n),
+    }
+    fate(s, s, true);
+}
+
 fn answer(s: State, e: Entry, x: Lines) {
     match e {
         Entry::Nothing => text(b" nothing"),
@@ -110,6 +120,7 @@ fn answer(s: State, e: Entry, x: Lines) {
             custcode,
         } => started(s, time, supcode, custcode),
         Entry::Put(c) => told(s, outcome(s, c, x)),
+        Entry::Parse(p) => parsed(s, p),
     }
 }
 

@@ -1,10 +1,11 @@
-// The message of six values, written into a buffer with two bytes more than it needs, and what a litre is of an amount at base conditions.
+// The message of six values, written into a buffer with two bytes more than it needs and read back from it, and what a litre is of an amount at base conditions.
 use message::Values;
 use print::end;
 use print::gives;
 use print::hex;
 use print::number;
 use print::text;
+use reader::Parsed;
 use units::BaseUnits;
 
 fn six(v: Values) {
@@ -14,6 +15,18 @@ fn six(v: Values) {
     number(v.vm);
     number(v.vmd);
     number(v.vmt);
+}
+
+// What the reader makes of the message of these values.
+fn back(v: Values, captured: &[u8]) {
+    text(b"parsed");
+    six(v);
+    gives();
+    match reader::parse(captured) {
+        Parsed::Accepted(w) => six(w),
+        Parsed::Refused(n) => number(n),
+    }
+    end();
 }
 
 fn ask(vb: u64, vbd: u64, vbt: u64, vm: u64, vmd: u64, vmt: u64) {
@@ -33,6 +46,7 @@ fn ask(vb: u64, vbd: u64, vbt: u64, vm: u64, vmd: u64, vmt: u64) {
     text(b" ");
     hex(&buffer);
     end();
+    back(v, &buffer[0..message::SIZE]);
 }
 
 // The same value in each of the six places in turn, and 0 in the others.

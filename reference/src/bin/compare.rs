@@ -11,6 +11,7 @@ use corrector_reference::coverage::Coverage;
 use corrector_reference::generate::{fuzz_script, giant_script, long_script, random_script, Rng};
 use corrector_reference::script::{show, Script};
 use corrector_reference::shrink::shrink;
+use corrector_reference::spoilt::spoilt_script;
 use corrector_reference::usage::options_or_end;
 use corrector_reference::walk::walk_script;
 
@@ -19,9 +20,9 @@ usage: compare --bench PROGRAM [--steps N] [--seed S] [options]
        compare --bench PROGRAM --fuzz N [--seed S] [options]
        compare --coverage [--steps N] [--seed S]
 
-Runs the kept cases, a walk over the rows of the settings page, one long script
-and random scripts on PROGRAM and on the reference, and stops at the first line
-that differs.
+Runs the kept cases, a walk over the rows of the settings page, spoilt messages,
+one long script and random scripts on PROGRAM and on the reference, and stops at
+the first line that differs.
 
   --bench PROGRAM   the program that answers the lines; without it the
                     reference runs alone, which is of use with --coverage
@@ -166,6 +167,7 @@ impl Comparison {
             return Ok(());
         }
         self.walk()?;
+        self.spoilt()?;
         let mut rng = Rng::new(self.options.seed);
         if let Some(malformed) = self.options.fuzz {
             self.fuzz(&mut rng, malformed)?;
@@ -221,6 +223,15 @@ impl Comparison {
         self.compare(&walk_script())?;
         let steps = self.coverage.answered() - before;
         println!("walk over the settings page of {steps} steps: no difference");
+        Ok(())
+    }
+
+    /// All that can be wrong with one message, the same at every run.
+    fn spoilt(&mut self) -> Result<(), Stop> {
+        let before = self.coverage.answered();
+        self.compare(&spoilt_script())?;
+        let steps = self.coverage.answered() - before;
+        println!("spoilt messages to the reader in {steps} steps: no difference");
         Ok(())
     }
 

@@ -20,6 +20,9 @@ start-requires c κs = search needs
 enum-told-3 : tie.Need-enum-told-3
 enum-told-3 c = search needs
 
+enum-told-4 : tie.Need-enum-told-4
+enum-told-4 c = search needs
+
 returns : tie.Need-returns
 unfolding answeredIn
 returns c = simp (c .enum-told .given .1)
@@ -36,5 +39,9 @@ returns-4 : tie.Need-returns-4
 unfolding answeredIn
 returns-4 c = simp (c .enum-told3 .given .1)
 
+returns-5 : tie.Need-returns-5
+unfolding answeredIn
+returns-5 c = simp (c .enum-told4 .given .1)
+
 pub answered-in-spec : {M : Type 1} → statement M
-answered-in-spec = tie.close (tie.spec enum-told enum-told-2 enum-known-e start-requires enum-told-3 returns returns-2 returns-3 returns-4)
+answered-in-spec = tie.close (tie.spec enum-told enum-told-2 enum-known-e start-requires enum-told-3 enum-told-4 returns returns-2 returns-3 returns-4 returns-5)

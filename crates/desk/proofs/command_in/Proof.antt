@@ -17,6 +17,9 @@ enum-told-3 c = search needs
 enum-known-e : tie.Need-enum-known-e
 enum-known-e c = search needs
 
+enum-told-4 : tie.Need-enum-told-4
+enum-told-4 c = search needs
+
 returns : tie.Need-returns
 unfolding commandIn
 returns c = simp (c .enum-told .given .1)
@@ -33,7 +36,11 @@ returns-4 : tie.Need-returns-4
 unfolding commandIn
 returns-4 c = simp (c .before .e .given .1)
 
+returns-5 : tie.Need-returns-5
+unfolding commandIn
+returns-5 c = simp (c .enum-told4 .given .1)
+
 pub command-in-spec : {M : Type 1} → statement M
 command-in-spec =
     tie.close
-    (tie.spec enum-told enum-told-2 enum-told-3 enum-known-e returns returns-2 returns-3 returns-4)
+    (tie.spec enum-told enum-told-2 enum-told-3 enum-known-e enum-told-4 returns returns-2 returns-3 returns-4 returns-5)

@@ -17,6 +17,9 @@ enum-told-3 c = search needs
 enum-told-4 : tie.Need-enum-told-4
 enum-told-4 c = search needs
 
+enum-known-e : tie.Need-enum-known-e
+enum-known-e c = search needs
+
 returns : tie.Need-returns
 unfolding echoBy
 returns c = simp (c .enum-told .given .1)
@@ -33,5 +36,9 @@ returns-4 : tie.Need-returns-4
 unfolding echoBy
 returns-4 c = simp (c .enum-told4 .given .1)
 
+returns-5 : tie.Need-returns-5
+unfolding echoBy
+returns-5 c = simp (c .before .e .given .1)
+
 pub echo-by-spec : {M : Type 1} → statement M
-echo-by-spec = tie.close (tie.spec enum-told enum-told-2 enum-told-3 enum-told-4 returns returns-2 returns-3 returns-4)
+echo-by-spec = tie.close (tie.spec enum-told enum-told-2 enum-told-3 enum-told-4 enum-known-e returns returns-2 returns-3 returns-4 returns-5)

@@ -17,6 +17,9 @@ enum-told-3 c = search needs
 enum-told-4 : tie.Need-enum-told-4
 enum-told-4 c = search needs
 
+enum-told-5 : tie.Need-enum-told-5
+enum-told-5 c = search needs
+
 returns : tie.Need-returns
 unfolding soundBy
 returns c = simp (c .enum-told .given .1)
@@ -33,5 +36,9 @@ returns-4 : tie.Need-returns-4
 unfolding soundBy
 returns-4 c = simp (c .enum-told4 .given .1)
 
+returns-5 : tie.Need-returns-5
+unfolding soundBy
+returns-5 c = simp (c .enum-told5 .given .1)
+
 pub sound-by-spec : {M : Type 1} → statement M
-sound-by-spec = tie.close (tie.spec enum-told enum-told-2 enum-told-3 enum-told-4 returns returns-2 returns-3 returns-4)
+sound-by-spec = tie.close (tie.spec enum-told enum-told-2 enum-told-3 enum-told-4 enum-told-5 returns returns-2 returns-3 returns-4 returns-5)

@@ -3,7 +3,7 @@
 use borrow.Author.Needs.{needs}
 use mathlib.Core.Path.{sym, _∙_}
 use denote.Ref.{now}
-use Rattle.spelling.proofs.Spelled.{bounds, spelled, not-spelled}
+use Rattle.spelling.proofs.Spelled.{bounds, in-base, not-in-base}
 use Rattle.spelling.proofs.digits_into.Statement.{statement}
 use Rattle.spelling.proofs.digits_into.Tie as tie
 
@@ -19,12 +19,12 @@ same-length c = search needs
 returns : tie.Need-returns
 returns c =
     let a = c .before .before .before .before .before .before .before .args in
-    c .before .before .spell .ensures ∙ spelled (now (a .part)) (a .base) (a .n) (sym (c .before .before .before .before .before .has-glyphs .ensures) ∙ c .before .before .before .before .if1 .taken)
+    c .before .before .spell .ensures ∙ in-base (now (a .part)) (a .base) (a .n) (sym (c .before .before .before .before .before .has-glyphs .ensures) ∙ c .before .before .before .before .if1 .taken)
 
 returns-2 : tie.Need-returns-2
 returns-2 c =
     let a = c .before .before .before .args in
-    not-spelled (now (a .part)) (a .base) (a .n) (sym (c .before .has-glyphs .ensures) ∙ c .if1 .left)
+    not-in-base (now (a .part)) (a .base) (a .n) (sym (c .before .has-glyphs .ensures) ∙ c .if1 .left)
 
 pub digits-into-spec : {M : Type 1} → statement M
 digits-into-spec = tie.close (tie.spec has-glyphs-requires spell-requires same-length returns returns-2)

@@ -38,6 +38,12 @@ enum-known-echo c = search needs
 said-line-requires : tie.Need-said-line-requires
 said-line-requires c κs = search needs
 
+enum-known-echo-2 : tie.Need-enum-known-echo-2
+enum-known-echo-2 c = search needs
+
+parsed-line-requires : tie.Need-parsed-line-requires
+parsed-line-requires c κs = search needs
+
 returns-3 : tie.Need-returns-3
 unfolding echoText
 returns-3 c =
@@ -62,5 +68,14 @@ returns-5 c =
     let a = c .before .before .before .before .before .before .before .before .before .before .args in
     retext (room-for (now (a .out)) (a .at) (a .echo) (echo.Said _) (omega arith) (c .before .before .before .before .before .echo .given .1)) (c .before .before .said-line .ensures)
 
+same-length-3 : tie.Need-same-length-3
+same-length-3 c = search needs
+
+returns-6 : tie.Need-returns-6
+unfolding echoText
+returns-6 c =
+    let a = c .before .before .before .before .before .before .before .before .before .before .args in
+    retext (room-for (now (a .out)) (a .at) (a .echo) (echo.Parse _) (omega arith) (c .before .before .before .before .before .echo2 .given .1)) (c .before .before .parsed-line .ensures)
+
 pub echo-line-spec : {M : Type 1} → statement M
-echo-line-spec = tie.close (tie.spec returns sub-if2 returns-2 enum-told enum-told-2 unknown-line-requires enum-known-echo said-line-requires returns-3 same-length returns-4 same-length-2 returns-5)
+echo-line-spec = tie.close (tie.spec returns sub-if2 returns-2 enum-told enum-told-2 unknown-line-requires enum-known-echo said-line-requires enum-known-echo-2 parsed-line-requires returns-3 same-length returns-4 same-length-2 returns-5 same-length-3 returns-6)

@@ -25,12 +25,15 @@ after-word-requires-2 c κs = search needs
 number-at-requires : tie.Need-number-at-requires
 number-at-requires c κs = search needs
 
-one-or-requires : tie.Need-one-or-requires
-one-or-requires c κs = search needs
+word-between-requires-2 : tie.Need-word-between-requires-2
+word-between-requires-2 c κs = search needs
+
+word-or-requires : tie.Need-word-or-requires
+word-or-requires c κs = search needs
 
 returns-2 : tie.Need-returns-2
 unfolding entryIn word noWord place
-returns-2 c = rw (c .one-or .ensures, ← c .before .before .before .before .before .before .after-word .ensures, ← c .before .before .before .before .before .word-between .ensures, c .before .before .before .before .if1 .left, ← c .before .before .before .after-word2 .ensures, ← c .before .before .number-at .ensures, c .before .if2 .taken)
+returns-2 c = rw (c .word-or .ensures, c .before .word-between2 .ensures, ← c .before .before .before .before .before .before .before .after-word .ensures, ← c .before .before .before .before .before .before .word-between .ensures, c .before .before .before .before .before .if1 .left, ← c .before .before .before .before .after-word2 .ensures, ← c .before .before .before .number-at .ensures, c .before .before .if2 .taken)
 
 after-word-requires-3 : tie.Need-after-word-requires-3
 after-word-requires-3 c κs = search needs
@@ -61,11 +64,11 @@ returns-4 c = rw (c .three-or .ensures, c .before .number-at3 .ensures, ← c .b
 after-word-requires-5 : tie.Need-after-word-requires-5
 after-word-requires-5 c κs = search needs
 
-word-between-requires-2 : tie.Need-word-between-requires-2
-word-between-requires-2 c κs = search needs
-
 word-between-requires-3 : tie.Need-word-between-requires-3
 word-between-requires-3 c κs = search needs
+
+word-between-requires-4 : tie.Need-word-between-requires-4
+word-between-requires-4 c κs = search needs
 
 value-in-requires : tie.Need-value-in-requires
 value-in-requires c κs = search needs
@@ -75,7 +78,7 @@ value-or-requires c κs = search needs
 
 returns-5 : tie.Need-returns-5
 unfolding entryIn word noWord place
-returns-5 c = rw (c .value-or .ensures, c .before .value-in .ensures, c .before .before .word-between3 .ensures, c .before .before .before .word-between2 .ensures, ← c .before .before .before .before .before .before .before .before .before .before .before .before .before .before .before .before .after-word .ensures, ← c .before .before .before .before .before .before .before .before .before .before .before .before .before .before .before .word-between .ensures, c .before .before .before .before .before .before .before .before .before .before .before .before .before .before .if1 .left, ← c .before .before .before .before .before .before .before .before .before .before .before .before .before .after-word2 .ensures, ← c .before .before .before .before .before .before .before .before .before .before .before .before .number-at .ensures, c .before .before .before .before .before .before .before .before .before .before .before .if2 .left, ← c .before .before .before .before .before .before .before .before .before .before .after-word3 .ensures, ← c .before .before .before .before .before .before .before .before .before .number-at2 .ensures, c .before .before .before .before .before .before .before .before .if3 .left, ← c .before .before .before .before .before .before .before .after-word4 .ensures, c .before .before .before .before .before .before .if4 .left, ← c .before .before .before .before .before .after-word5 .ensures, c .before .before .before .before .if5 .taken)
+returns-5 c = rw (c .value-or .ensures, c .before .value-in .ensures, c .before .before .word-between4 .ensures, c .before .before .before .word-between3 .ensures, ← c .before .before .before .before .before .before .before .before .before .before .before .before .before .before .before .before .after-word .ensures, ← c .before .before .before .before .before .before .before .before .before .before .before .before .before .before .before .word-between .ensures, c .before .before .before .before .before .before .before .before .before .before .before .before .before .before .if1 .left, ← c .before .before .before .before .before .before .before .before .before .before .before .before .before .after-word2 .ensures, ← c .before .before .before .before .before .before .before .before .before .before .before .before .number-at .ensures, c .before .before .before .before .before .before .before .before .before .before .before .if2 .left, ← c .before .before .before .before .before .before .before .before .before .before .after-word3 .ensures, ← c .before .before .before .before .before .before .before .before .before .number-at2 .ensures, c .before .before .before .before .before .before .before .before .if3 .left, ← c .before .before .before .before .before .before .before .after-word4 .ensures, c .before .before .before .before .before .before .if4 .left, ← c .before .before .before .before .before .after-word5 .ensures, c .before .before .before .before .if5 .taken)
 
 after-word-requires-6 : tie.Need-after-word-requires-6
 after-word-requires-6 c κs = search needs
@@ -110,4 +113,4 @@ unfolding entryIn word noWord place
 returns-7 c = rw (← c .before .before .before .before .before .before .before .before .before .before .before .before .before .before .after-word .ensures, ← c .before .before .before .before .before .before .before .before .before .before .before .before .before .word-between .ensures, c .before .before .before .before .before .before .before .before .before .before .before .before .if1 .left, ← c .before .before .before .before .before .before .before .before .before .before .before .after-word2 .ensures, ← c .before .before .before .before .before .before .before .before .before .before .number-at .ensures, c .before .before .before .before .before .before .before .before .before .if2 .left, ← c .before .before .before .before .before .before .before .before .after-word3 .ensures, ← c .before .before .before .before .before .before .before .number-at2 .ensures, c .before .before .before .before .before .before .if3 .left, ← c .before .before .before .before .before .after-word4 .ensures, c .before .before .before .before .if4 .left, ← c .before .before .before .after-word5 .ensures, c .before .before .if5 .left, ← c .before .after-word6 .ensures, c .if6 .left)
 
 pub entry-in-spec : {M : Type 1} → statement M
-entry-in-spec = tie.close (tie.spec after-word-requires word-between-requires alone-requires returns after-word-requires-2 number-at-requires one-or-requires returns-2 after-word-requires-3 number-at-requires-2 two-or-requires returns-3 after-word-requires-4 number-at-requires-3 three-or-requires returns-4 after-word-requires-5 word-between-requires-2 word-between-requires-3 value-in-requires value-or-requires returns-5 after-word-requires-6 reading-at-requires raw-of-requires reading-at-requires-2 pressure-of-requires reading-at-requires-3 computed-of-requires readings-or-requires returns-6 returns-7)
+entry-in-spec = tie.close (tie.spec after-word-requires word-between-requires alone-requires returns after-word-requires-2 number-at-requires word-between-requires-2 word-or-requires returns-2 after-word-requires-3 number-at-requires-2 two-or-requires returns-3 after-word-requires-4 number-at-requires-3 three-or-requires returns-4 after-word-requires-5 word-between-requires-3 word-between-requires-4 value-in-requires value-or-requires returns-5 after-word-requires-6 reading-at-requires raw-of-requires reading-at-requires-2 pressure-of-requires reading-at-requires-3 computed-of-requires readings-or-requires returns-6 returns-7)

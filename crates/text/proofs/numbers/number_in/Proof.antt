@@ -10,8 +10,10 @@ use native.Mathlib.Omega.{arith}
 use lib.ListN.{length, getD}
 use denote.Ref.{now}
 use Rattle.ground.specs.Below.{allBelow}
-use Rattle.text.specs.Numbers.{digitOf, digitAt, spelled, largest}
-use Rattle.text.proofs.Digits.{empty, fits, over, no-digit, no-digit-at, digit-at, one-more, too-much, is-number}
+use Rattle.spelling.specs.Spelling.{digitOf, spelled}
+use Rattle.spelling.proofs.Said.{one-more}
+use Rattle.text.specs.Numbers.{digitAt, largest}
+use Rattle.text.proofs.Digits.{empty, fits, over, no-digit, no-digit-at, digit-at, too-much, is-number}
 use Rattle.text.proofs.numbers.number_in.Statement.{statement}
 use Rattle.text.proofs.numbers.number_in.Tie as tie
 

@@ -1,10 +1,10 @@
--- `text::numbers::digit_of` meets its contract: each test says which digits the byte is past.
+-- `spelling::digit_of` meets its contract: each test says which digits the byte is past.
 -- Assumes nothing.
 use borrow.Author.Needs.{needs}
 use borrow.Author.Tests.{lt-ltb, le-ltb}
-use Rattle.text.specs.Numbers.{digitOf}
-use Rattle.text.proofs.numbers.digit_of.Statement.{statement}
-use Rattle.text.proofs.numbers.digit_of.Tie as tie
+use Rattle.spelling.specs.Spelling.{digitOf}
+use Rattle.spelling.proofs.digit_of.Statement.{statement}
+use Rattle.spelling.proofs.digit_of.Tie as tie
 
 returns : tie.Need-returns
 unfolding digitOf

@@ -1,4 +1,4 @@
--- `text::words::same` meets its contract: two words of one length are the same exactly when what is left of both is.
+-- `spelling::same` meets its contract: two texts of one length are the same exactly when what is left of both is.
 -- Assumes nothing.
 use borrow.Author.Needs.{needs}
 use mathlib.Core.Path.{_≡_, refl, sym, _∙_}
@@ -8,10 +8,10 @@ use native.Mathlib.Numerals.{add-one}
 use native.Mathlib.Omega.{arith}
 use lib.ListN.{length, drop}
 use denote.Ref.{now}
-use Rattle.text.specs.Words.{sameB}
-use Rattle.text.proofs.Bytes.{other-length, passes-both, stops-both, both-end}
-use Rattle.text.proofs.words.same.Statement.{statement}
-use Rattle.text.proofs.words.same.Tie as tie
+use Rattle.spelling.specs.Spelling.{sameB}
+use Rattle.spelling.proofs.Alike.{other-length, passes-both, stops-both, both-end}
+use Rattle.spelling.proofs.same.Statement.{statement}
+use Rattle.spelling.proofs.same.Tie as tie
 
 abbrev Inv-loop : tie.InvT-loop
 Inv-loop a b i₀ i = (length a ≡ length b) × (i ≤ length a) × (sameB a b ≡ sameB (drop i a) (drop i b))

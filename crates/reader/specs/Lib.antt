@@ -1,0 +1,2 @@
+-- The readout read back.
+pub mod Reader
