@@ -8,10 +8,10 @@ use lib.ListN.{take, drop}
 use lib.Seq.{take-take}
 use Rattle.spelling.specs.Spelling.{digits}
 use Rattle.spelling.proofs.Lent.{length-digits}
-use Rattle.spelling.proofs.Said.{digits-spell}
+use Rattle.spelling.proofs.Spells.{digits-spell}
 use Rattle.message.specs.declared.Values.{Values}
 use Rattle.message.specs.Message.{cubicMetres, line, body, message, sayable, Fits}
-use Rattle.reader.specs.Reader.{checkAt, said, litresOn, valuesOn}
+use Rattle.reader.specs.Reader.{checkAt, decimalIn, litresOn, valuesOn}
 
 -- ---- parts
 
@@ -27,9 +27,9 @@ part-same n a k l m h e = sym (within n a k l h) ∙ ap (λ (x : List ℕ). take
 
 -- ---- digits
 
-digits-said : (k n : ℕ) → said (digits 10 k n) ≡ n % 10 ^ k
-unfolding said
-digits-said k n = rw (length-digits 10 k n) (digits-spell 10 k n (omega arith) (omega arith))
+digits-spelled : (k n : ℕ) → decimalIn (digits 10 k n) ≡ n % 10 ^ k
+unfolding decimalIn
+digits-spelled k n = rw (length-digits 10 k n) (digits-spell 10 k n (omega arith) (omega arith))
 
 -- the last twelve digits of a number
 abbrev pub twelve : ℕ → ℕ
@@ -68,7 +68,7 @@ module _ (b : List ℕ) (v : Values) (same : take checkAt b ≡ take checkAt (me
   line-says k n h s =
       let nine = part-same checkAt (7 + 25 * k) 9 b (message v) (omega arith) same ∙ s .nine in
       let three = part-same checkAt (17 + 25 * k) 3 b (message v) (omega arith) same ∙ s .three in
-      rw (nine, three, digits-said 9 (n / 1000), digits-said 3 n)
+      rw (nine, three, digits-spelled 9 (n / 1000), digits-spelled 3 n)
 
   -- THE DIGITS SAY THE VALUES
   pub values-back : Fits v → valuesOn b ≡ v

@@ -8,8 +8,8 @@ use mathlib.Core.Path.{_≡_, refl}
 use mathlib.Core.List.{List}
 use lib.ListN.{length, getD}
 use Rattle.spelling.specs.Spelling.{digitOf, spelled}
-use Rattle.spelling.proofs.Said.{one-more, no-more-than}
-use Rattle.reader.specs.Reader.{said}
+use Rattle.spelling.proofs.Spells.{one-more, no-more-than}
+use Rattle.reader.specs.Reader.{decimalIn}
 
 pub none-yet : (w : List ℕ) → 0 ≡ spelled 10 w 0
 unfolding spelled
@@ -18,8 +18,8 @@ none-yet w = refl
 pub digit-more : (w : List ℕ) (k v : ℕ) {d : ℕ} → d ≡ digitOf (getD w k 0) → v ≡ spelled 10 w k → 10 * v + d ≡ spelled 10 w (k + 1)
 digit-more w k v e h = rw (add-one k) (one-more 10 w k e h)
 
-pub all-read : (w : List ℕ) (k : ℕ) → k ≡ length w → spelled 10 w k ≡ said w
-unfolding said
+pub all-read : (w : List ℕ) (k : ℕ) → k ≡ length w → spelled 10 w k ≡ decimalIn w
+unfolding decimalIn
 all-read w k e = rw e
 
 -- ---- no digit counts more than 16, so so many of them fit a word of 64 bits

@@ -127,16 +127,16 @@ whole b v f c =
     let one : (l : List ℕ) → length l ≡ size → l ≡ take checkAt l ++ (getD l checkAt 0 ∷ []) = λ l e. sym (take-all size l (omega arith)) ∙ take-suc l checkAt 0 (omega arith) in
     one b (f .long) ∙ rw (f .same, c, ← check-last v) (sym (one (message v) (length-message v)))
 
-abbrev valuesIn : Parsed → Values
-valuesIn (Accepted v) = v
-valuesIn (Refused n) = record { vb = 0; vbd = 0; vbt = 0; vm = 0; vmd = 0; vmt = 0 }
+abbrev given : Parsed → Values
+given (Accepted v) = v
+given (Refused n) = record { vb = 0; vbd = 0; vbt = 0; vm = 0; vmd = 0; vmt = 0 }
 
 -- WHAT IS ACCEPTED IS WHAT IS WRITTEN for its values, byte for byte, and its values have at most twelve digits
 pub accepted-is-written : (b : List ℕ) (v : Values) → parsed b ≡ Accepted v → (b ≡ message v) × Fits v
 accepted-is-written b v e = by-rule (parsed b) (by-the-rule b) e
   where
     by-rule : (r : Parsed) → Reads b r → r ≡ Accepted v → (b ≡ message v) × Fits v
-    by-rule r (accepted w f c) q = let is : w ≡ v = ap valuesIn q in rw (← is) (whole b w f c, f .fits)
+    by-rule r (accepted w f c) q = let is : w ≡ v = ap given q in rw (← is) (whole b w f c, f .fits)
     by-rule r (wrongCheck w f c) q = let n : _≡_ {A = ℕ} 18 0 = ap parsedNumber q in absurd (omega arith)
     by-rule r (notOfForm m) q = let n : _≡_ {A = ℕ} 17 0 = ap parsedNumber q in absurd (omega arith)
 

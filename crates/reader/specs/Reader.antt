@@ -34,12 +34,12 @@ pub data Reads (b : List ℕ) : Parsed → Type 0 where
 -- ---- the six values
 
 -- the number that the digits of a text spell, all of them
-unfoldable pub said : List ℕ → ℕ
-said w = spelled 10 w (length w)
+unfoldable pub decimalIn : List ℕ → ℕ
+decimalIn w = spelled 10 w (length w)
 
 -- what line k says, counted from 0. A line has 25 bytes; nine digits stand behind its address and bracket, and three behind the point
 unfoldable pub litresOn : ℕ → List ℕ → ℕ
-litresOn k b = 1000 * said (take 9 (drop (7 + 25 * k) b)) + said (take 3 (drop (17 + 25 * k) b))
+litresOn k b = 1000 * decimalIn (take 9 (drop (7 + 25 * k) b)) + decimalIn (take 3 (drop (17 + 25 * k) b))
 
 -- "six values in litres", in the order of the lines
 unfoldable pub valuesOn : List ℕ → Values

@@ -1,11 +1,11 @@
-// The readout read back: a message of 156 bytes into its six values in litres. It is compared with what `message::write` writes for the values that its digits spell, so the form of a message stands in one
-// place.
+// The readout read back: a message of 156 bytes into its six values in litres. It is compared with what `message::write` writes for the values that its digits spell, so
+// that the form of a message stands in one place.
 use message::Values;
 ghost use mathlib.Core.Path.{_≡_};
 ghost use Prim.Native.Nat.{_≤_, _<_};
 ghost use lib.ListN.{length, replicate};
 ghost use Rattle.message.specs.Message.{size};
-ghost use Rattle.reader.specs.Reader.{said, litresOn, valuesOn, answerBy, parsed};
+ghost use Rattle.reader.specs.Reader.{decimalIn, litresOn, valuesOn, answerBy, parsed};
 
 // The six values, or the number of a refusal and no values.
 pub enum Parsed {
@@ -24,16 +24,16 @@ pub const WRONG_CHECK: u64 = 18;
 // The check stands last.
 const CHECK: usize = message::SIZE - 1;
 
-// Where digits stand: the nine of the first line, and how many bytes a line has.
+// Where the first digit of the first line stands, and how many bytes a line has.
 
-const NINE: usize = 7;
+const FIRST_DIGIT: usize = 7;
 
-const LINE: usize = 25;
+const LINE_LENGTH: usize = 25;
 
 // The number that the digits of a part spell. A byte that is no digit counts something too: that it is none shows when the message is compared.
 fn number(part: &[u8]) -> u64
     requires { ⌜ length (now part) ≤ 12 ⌝ }
-    ensures { λ r. ⌜ r ≡ said (now (part .entry)) ⌝ }
+    ensures { λ r. ⌜ r ≡ decimalIn (now (part .entry)) ⌝ }
 {
     let mut value: u64 = 0;
     let mut i: usize = 0;
@@ -49,7 +49,7 @@ fn litres_on(bytes: &[u8], k: usize) -> u64
     requires { ⌜ (size ≤ length (now bytes)) × (k < 6) ⌝ }
     ensures { λ r. ⌜ r ≡ litresOn k (now (bytes .entry)) ⌝ }
 {
-    let nine = NINE + LINE * k;
+    let nine = FIRST_DIGIT + LINE_LENGTH * k;
     let point = nine + 9;
     let three = point + 1;
     let end = three + 3;
@@ -98,7 +98,7 @@ fn blank() -> [u8; message::SIZE]
     [0; message::SIZE]
 }
 
-// Reads a message, any bytes whatever. If any values have this message, they are those that the digits spell; so it remains to compare.
+// Reads any bytes. If some values have this message, they are those that its digits spell; so it is enough to compare with the message of these.
 pub fn parse(bytes: &[u8]) -> Parsed
     ensures { λ r. ⌜ r ≡ parsed (now (bytes .entry)) ⌝ }
 {

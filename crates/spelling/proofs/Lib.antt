@@ -3,4 +3,4 @@ pub mod Puts
 pub mod Spelled
 pub mod Lent
 pub mod Alike
-pub mod Said
+pub mod Spells

@@ -15,7 +15,7 @@ use Rattle.ground.specs.Below.{allBelow}
 use Rattle.ground.proofs.Every.{all-each}
 use Rattle.ground.proofs.Flags.{Either, is-true, is-false, either-of, and-right}
 use Rattle.spelling.specs.Spelling.{bytes, sameB, glyph, digits, digitOf}
-use Rattle.spelling.proofs.Said.{digit-back}
+use Rattle.spelling.proofs.Spells.{digit-back}
 use Rattle.reader.specs.declared.Parsed.the-variants.{Refused}
 use Rattle.commands.specs.declared.Entry.the-variants as entry
 use Rattle.reader.specs.Reader.{parsed}
@@ -89,7 +89,7 @@ all-put w out old n h e d =
 
 -- ---- the reader
 
-pub too-many : (w : List ℕ) → 250 < length w / 2 → Refused 17 ≡ parsed (unhexed w)
+pub too-many : (w : List ℕ) → longest / 2 < length w / 2 → Refused 17 ≡ parsed (unhexed w)
 too-many w h = reader.other-length (unhexed w) (λ e. omega (arith, length-unhexed w))
 
 -- what stands at the front of the buffer

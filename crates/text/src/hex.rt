@@ -11,6 +11,7 @@ ghost use lib.ListN.{length, drop, replicate};
 ghost use Rattle.ground.specs.Below.{allBelow};
 ghost use Rattle.spelling.specs.Spelling.{digitOf};
 ghost use Rattle.reader.specs.Reader.{parsed};
+ghost use Rattle.text.specs.Entries.{longest};
 ghost use Rattle.text.specs.Numbers.{digitAt};
 ghost use Rattle.text.specs.Hex.{isHexed, unhexed, parseAsked};
 
@@ -64,7 +65,7 @@ fn unhex(w: &[u8], out: &mut [u8])
 }
 
 fn blank() -> [u8; MOST]
-    ensures { λ r. ⌜ r ≡ replicate 250 0 ⌝ }
+    ensures { λ r. ⌜ r ≡ replicate (longest / 2) 0 ⌝ }
 {
     [0; MOST]
 }

@@ -7,7 +7,7 @@ use native.Mathlib.Omega.{arith}
 use lib.ListN.{length, getD}
 use denote.Ref.{now}
 use Rattle.spelling.specs.Spelling.{spelled}
-use Rattle.spelling.proofs.Said.{no-more-than}
+use Rattle.spelling.proofs.Spells.{no-more-than}
 use Rattle.reader.proofs.Digits.{none-yet, digit-more, all-read, small}
 use Rattle.reader.proofs.number.Statement.{statement}
 use Rattle.reader.proofs.number.Tie as tie

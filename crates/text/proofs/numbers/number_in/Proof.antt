@@ -11,7 +11,7 @@ use lib.ListN.{length, getD}
 use denote.Ref.{now}
 use Rattle.ground.specs.Below.{allBelow}
 use Rattle.spelling.specs.Spelling.{digitOf, spelled}
-use Rattle.spelling.proofs.Said.{one-more}
+use Rattle.spelling.proofs.Spells.{one-more}
 use Rattle.text.specs.Numbers.{digitAt, largest}
 use Rattle.text.proofs.Digits.{empty, fits, over, no-digit, no-digit-at, digit-at, too-much, is-number}
 use Rattle.text.proofs.numbers.number_in.Statement.{statement}
