@@ -1,5 +1,7 @@
 // The bench: reads commands from standard input, one a line, and writes one line for each, in order. Answers are written before more is read. Of an unfinished line
 // only so much is kept as decides its answer, so memory does not grow. A read or a write that fails is reported on standard error, and ends the bench.
+#![tactic(auto)]
+
 ghost use Rattle.std.specs.Prelude.{◌≡◌, ◌≤◌, ◌<◌, length};
 ghost use Rattle.text.specs.Words.{deciding};
 ghost use Rattle.lines.specs.Lines.{room};
@@ -9,7 +11,7 @@ use desk::Desk;
 use libc::{STDERR_FILENO, STDIN_FILENO, STDOUT_FILENO};
 
 // What is left of the input: the bytes from `from` up to `have`; whether a read may give more; whether the bench goes on.
-#[derive(Drop)]
+#[derive(Clone, Copy)]
 struct Window {
     from: usize,
     have: usize,
@@ -18,13 +20,13 @@ struct Window {
 }
 
 // How many bytes a read gave: none at the end of the input, or if it failed.
-#[derive(Drop)]
+#[derive(Clone, Copy)]
 struct More {
     n: usize,
     failed: bool,
 }
 
-#[derive(Drop)]
+#[derive(Clone, Copy)]
 struct Reached {
     desk: Desk,
     left: Window,
@@ -46,6 +48,7 @@ fn read_more(input: &mut [u8], held: usize) -> More
 }
 
 // Keeps the unfinished line and reads more. At the end of the input a last line without a line feed is given one. If the read failed, that line stays unanswered.
+#[tactic(auto, using(crate::proofs::Parts::refilled, crate::proofs::Parts::feed_behind))]
 fn refill(input: &mut [u8], from: usize, have: usize) -> Window
     requires { deciding < length input.old }
     ensures { Refilled input.old input.new from have result }
@@ -87,6 +90,7 @@ fn refill(input: &mut [u8], from: usize, have: usize) -> Window
 }
 
 // Answers the lines that are there and writes the answers. If there is none, reads more, unless the input has ended.
+#[tactic(auto, using(lines::proofs::Fronts::answers_within, lines::proofs::Fronts::at_within, crate::proofs::Parts::part_length, crate::proofs::Parts::stepped, crate::proofs::Parts::behind, crate::proofs::Parts::refilled_next))]
 fn step(d: Desk, input: &mut [u8], out: &mut [u8], from: usize, have: usize, more: bool) -> Reached
     requires { (from ≤ have) × (have ≤ length input.old) × (deciding < length input.old) }
     ensures { Stepped d input.old input.new out.old out.new from have more result }

@@ -1,5 +1,7 @@
 // Prints docs/FAULT-CARD.md: the numbers that the device answers, its archive, its logbook, its pulse outputs, its readout and its settings. Limits, sizes, and the rows of settings, pairs and locks are the device's own. So a change
 // of the device changes what is printed, and the gate refuses the committed page.
+#![tactic(auto)]
+
 mod archive;
 mod faults;
 mod logbook;

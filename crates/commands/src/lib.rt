@@ -1,12 +1,14 @@
 // The commands of the device, in groups, and the answers to them. The same types serve throughout: a line of text is read into a command, the device is given it,
 // and it is a step of a run.
+#![tactic(auto)]
+
 ghost use Rattle.std.specs.Prelude.{◌≡◌};
 ghost use Rattle.commands.specs.Answers.{plain, giving, answered};
 
 use reader::Parsed;
 
 // What a cycle brings: a time, a pulse count n, and three readings.
-#[derive(Drop)]
+#[derive(Clone, Copy)]
 pub struct Brought {
     pub time: u64,
     pub n: u64,
@@ -16,14 +18,14 @@ pub struct Brought {
 }
 
 // A lock opened with a code, or shut.
-#[derive(Drop)]
+#[derive(Clone, Copy)]
 pub enum LockTurn {
     Open(u64, u32),
     Shut(u64),
 }
 
 // A question changes nothing, whatever it answers. A readout says how many bytes are lent for its message. `Last` has the code of a logbook line.
-#[derive(Drop)]
+#[derive(Clone, Copy)]
 pub enum Question {
     Report,
     Outputs,
@@ -35,7 +37,7 @@ pub enum Question {
 }
 
 // What may be asked of the session at a door. It changes nothing but that session.
-#[derive(Drop)]
+#[derive(Clone, Copy)]
 pub enum Act {
     Begin,
     Read(u64),
@@ -43,7 +45,7 @@ pub enum Act {
     Abandon,
 }
 
-#[derive(Drop)]
+#[derive(Clone, Copy)]
 pub enum Command {
     Cycle(Brought),
     Turn(LockTurn),
@@ -55,21 +57,21 @@ pub enum Command {
 }
 
 // What a readout wrote: its six values, in litres. `room` is how many bytes were lent for the message.
-#[derive(Drop)]
+#[derive(Clone, Copy)]
 pub struct Readout {
     pub room: u64,
     pub values: message::Values,
 }
 
 // What the logbook says of a code: the newest line with it, or that none is held. Each with the number of lines looked at.
-#[derive(Drop)]
+#[derive(Clone, Copy)]
 pub enum Last {
     Newest(books::LogLine, u64),
     NoneHeld(u64),
 }
 
 // What is given beside the number: nothing if the command was refused or has nothing to give.
-#[derive(Drop)]
+#[derive(Clone, Copy)]
 pub enum Given {
     Nothing,
     Value(settings::Value),
@@ -84,14 +86,14 @@ pub enum Given {
 }
 
 // The number on the fault card, which is 0 for done, and what is given.
-#[derive(Drop)]
+#[derive(Clone, Copy)]
 pub struct Reply {
     pub number: u64,
     pub given: Given,
 }
 
 // A reply, and the state after the command.
-#[derive(Drop)]
+#[derive(Clone, Copy)]
 pub struct Answer {
     pub reply: Reply,
     pub state: state::State,
@@ -99,7 +101,7 @@ pub struct Answer {
 
 // What a line of input asks for: nothing (it is empty or a comment), something unknown, a new device in the place of this one, a command, or that a message be read. The
 // reader needs no device, so its answer stands here already.
-#[derive(Drop)]
+#[derive(Clone, Copy)]
 pub enum Entry {
     Nothing,
     Unknown,
@@ -113,7 +115,7 @@ pub enum Entry {
 }
 
 // What is said to a line.
-#[derive(Drop)]
+#[derive(Clone, Copy)]
 pub enum Echo {
     Nothing,
     Unknown,
@@ -133,6 +135,7 @@ pub fn plain_reply(number: u64) -> Reply
 }
 
 // A refusal gives nothing.
+#[tactic(auto, unfolding(crate::specs::Answers::giving))]
 pub fn giving_reply(number: u64, given: Given) -> Reply
     ensures { result ≡ giving number given }
 {
@@ -148,6 +151,7 @@ pub fn giving_reply(number: u64, given: Given) -> Reply
 }
 
 // A refusal leaves the state as it was.
+#[tactic(auto, unfolding(crate::specs::Answers::answered))]
 pub fn settled(number: u64, before: state::State, after: state::State) -> Answer
     ensures { result ≡ answered number before after }
 {

@@ -1,5 +1,7 @@
 // A desk: the device and its three stores in one plain value. Lines are put to it a block at a time. The stores are lent in place to each command, so nothing is
 // copied between commands. A caller of this crate lends nothing.
+#![tactic(auto)]
+
 ghost use Rattle.std.specs.Prelude.{◌≡◌, get_or, set, replicate, min};
 ghost use Rattle.desk.specs.Desk.{block, started, no_input, no_response, served};
 ghost use Rattle.desk.specs.Plan.{command_in, answered_in, echo_by, response_by, sound_by, putting_together};
@@ -19,7 +21,7 @@ pub const AUDIT: usize = ring::AUDIT_LINES as usize;
 // How many lines a block may have.
 pub const BLOCK: usize = 256;
 
-#[derive(Drop)]
+#[derive(Clone, Copy)]
 pub struct Desk {
     pub state: State,
     pub archive: [ArchiveLine; ARCHIVE],
@@ -28,7 +30,7 @@ pub struct Desk {
 }
 
 // The answer to a start. If it was refused, the desk is the one that start time 0 and codes 0 give.
-#[derive(Drop)]
+#[derive(Clone, Copy)]
 pub struct Started {
     pub number: u64,
     pub desk: Desk,
@@ -36,24 +38,25 @@ pub struct Started {
 
 // A line of a block, and what is said to it, as elements of arrays.
 
-#[derive(Drop)]
+#[derive(Clone, Copy)]
 pub struct Input {
     pub entry: Entry,
 }
 
-#[derive(Drop)]
+#[derive(Clone, Copy)]
 pub struct Response {
     pub echo: Echo,
 }
 
 // The desk after a block, and what is said to each of its lines.
-#[derive(Drop)]
+#[derive(Clone, Copy)]
 pub struct Served {
     pub desk: Desk,
     pub responses: [Response; BLOCK],
 }
 
 // A start writes nothing into the stores: their lines are blank, and none is held.
+#[tactic(auto, unfolding(crate::specs::Desk::started))]
 pub fn fresh(time: u64, supcode: u32, custcode: u32) -> Started
     ensures { result ≡ started time supcode custcode }
 {
@@ -101,6 +104,7 @@ fn audit_of(d: Desk) -> [AuditLine; AUDIT]
     d.audit
 }
 
+#[tactic(auto, unfolding(crate::specs::Plan::putting_together))]
 fn put_together(
     s: State,
     archive: [ArchiveLine; ARCHIVE],
@@ -148,6 +152,7 @@ fn entry_in(x: Input) -> Entry
 }
 
 // For an entry that is no command, a question: it changes nothing.
+#[tactic(auto, unfolding(crate::specs::Plan::command_in))]
 fn command_in(e: Entry) -> Command
     ensures { result ≡ command_in e }
 {
@@ -170,6 +175,7 @@ fn no_responses() -> [Response; BLOCK]
 }
 
 // A start replaces the device.
+#[tactic(auto, unfolding(crate::specs::Plan::answered_in))]
 fn answered_in(e: Entry, a: Answer) -> Answer
     ensures { result ≡ answered_in e a }
 {
@@ -186,6 +192,7 @@ fn answered_in(e: Entry, a: Answer) -> Answer
     }
 }
 
+#[tactic(auto, unfolding(crate::specs::Plan::echo_by))]
 fn echo_by(e: Entry, reply: Reply) -> Echo
     ensures { result ≡ echo_by e reply }
 {
@@ -198,6 +205,7 @@ fn echo_by(e: Entry, reply: Reply) -> Echo
     }
 }
 
+#[tactic(auto, unfolding(crate::specs::Plan::response_by))]
 fn response_by(e: Entry, a: Answer) -> Response
     ensures { result ≡ response_by e a }
 {
@@ -213,6 +221,7 @@ fn state_in(a: Answer) -> State
 }
 
 // A command never changes whether the state is whole, and a start gives a whole state.
+#[tactic(auto, unfolding(crate::specs::Plan::sound_by))]
 fn sound_by(e: Entry, sound: bool) -> bool
     ensures { result ≡ sound_by e sound }
 {
@@ -241,6 +250,7 @@ fn in_block(count: usize) -> usize
 }
 
 // Puts the first `count` lines of a block to the desk, one after another. Whether the state is whole is tested once for all of them.
+#[tactic(auto, unfolding(crate::specs::Plan::after, crate::specs::Plan::desk_after, crate::specs::Plan::seen_on, crate::specs::Plan::turn_on, crate::specs::Plan::sound_after, crate::specs::Plan::responses_up_to, crate::specs::Plan::response_on))]
 pub fn serve(d: Desk, inputs: [Input; BLOCK], count: usize) -> Served
     ensures { result ≡ served d inputs count }
 {

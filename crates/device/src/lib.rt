@@ -1,5 +1,7 @@
 // One command put to the device over lent stores: its answer, and the state after it. Only the state is copied. A store is passed on only to the commands that use
 // it. The caller has tested the state: `sound` says whether it is whole.
+#![tactic(auto)]
+
 ghost use Rattle.std.specs.Prelude.{◌≡◌, eqb};
 ghost use Rattle.commands.specs.Answers.{plain};
 ghost use Rattle.steps.specs.Step.{called_by};
@@ -19,6 +21,7 @@ const TURN: u64 = 2;
 
 const COMMIT: u64 = 3;
 
+#[tactic(auto, unfolding(crate::specs::Plan::kind_of))]
 fn kind_of(c: Command) -> u64
     ensures { result ≡ kind_of c }
 {
@@ -39,6 +42,7 @@ fn is(kind: u64, wanted: u64) -> bool
     kind == wanted
 }
 
+#[tactic(auto, unfolding(crate::specs::Plan::no_readings))]
 fn no_readings() -> Brought
     ensures { result ≡ no_readings }
 {
@@ -53,6 +57,7 @@ fn no_readings() -> Brought
 
 // What a command of the right kind brings. For any other command the result is never looked at.
 
+#[tactic(auto, unfolding(crate::specs::Plan::brought_in))]
 fn brought_in(c: Command) -> Brought
     ensures { result ≡ brought_in c }
 {
@@ -67,6 +72,7 @@ fn brought_in(c: Command) -> Brought
     }
 }
 
+#[tactic(auto, unfolding(crate::specs::Plan::turn_in))]
 fn turn_in(c: Command) -> LockTurn
     ensures { result ≡ turn_in c }
 {
@@ -81,6 +87,7 @@ fn turn_in(c: Command) -> LockTurn
     }
 }
 
+#[tactic(auto, unfolding(crate::specs::Plan::door_in))]
 fn door_in(c: Command) -> u64
     ensures { result ≡ door_in c }
 {
@@ -106,12 +113,13 @@ const AUDIT: u64 = 3;
 const LAST: u64 = 4;
 
 // What is asked of a store: the number of a line, or the code of the newest with it.
-#[derive(Drop)]
+#[derive(Clone, Copy)]
 struct Line {
     kind: u64,
     number: u64,
 }
 
+#[tactic(auto, unfolding(crate::specs::Plan::plain_line))]
 fn plain_line(kind: u64, number: u64) -> Line
     ensures { result ≡ plain_line kind number }
 {
@@ -121,6 +129,7 @@ fn plain_line(kind: u64, number: u64) -> Line
     }
 }
 
+#[tactic(auto, unfolding(crate::specs::Plan::line_asked))]
 fn line_asked(q: Question) -> Line
     ensures { result ≡ line_asked q }
 {
@@ -135,6 +144,7 @@ fn line_asked(q: Question) -> Line
     }
 }
 
+#[tactic(auto, unfolding(crate::specs::Plan::line_of))]
 fn line_of(c: Command) -> Line
     ensures { result ≡ line_of c }
 {
@@ -162,6 +172,7 @@ fn line_in(line: Line) -> u64
 }
 
 // A question about a line of a store does not come here.
+#[tactic(auto, unfolding(crate::specs::Plan::state_reply))]
 fn state_reply(s: State, sound: bool, q: Question) -> Reply
     ensures { result ≡ state_reply sound s q }
 {
@@ -176,6 +187,7 @@ fn state_reply(s: State, sound: bool, q: Question) -> Reply
     }
 }
 
+#[tactic(auto, unfolding(crate::specs::Plan::by_state))]
 fn by_state(s: State, sound: bool, c: Command) -> Reply
     ensures { result ≡ by_state sound s c }
 {
@@ -191,6 +203,7 @@ fn by_state(s: State, sound: bool, c: Command) -> Reply
 }
 
 // The reply to a question. Any other command has its reply from `answer`.
+#[tactic(auto, using(crate::proofs::Ways::archive_way, crate::proofs::Ways::log_way, crate::proofs::Ways::audit_way, crate::proofs::Ways::last_way, crate::proofs::Ways::state_way))]
 pub fn seen(
     s: State,
     sound: bool,
@@ -234,6 +247,7 @@ fn called_at(s: State, sound: bool, door: u64, act: Act) -> Answer
     }
 }
 
+#[tactic(auto, unfolding(crate::specs::Plan::answered_by))]
 fn answered_by(reply: Reply, s: State) -> Answer
     ensures { result ≡ answered_by reply s }
 {
@@ -244,6 +258,7 @@ fn answered_by(reply: Reply, s: State) -> Answer
 }
 
 // A question has its reply already. A command that writes a store does not come here.
+#[tactic(auto, unfolding(crate::specs::Plan::by_value))]
 fn by_value(s: State, sound: bool, c: Command, seen: Reply) -> Answer
     ensures { result ≡ by_value sound s c seen }
 {
@@ -259,6 +274,7 @@ fn by_value(s: State, sound: bool, c: Command, seen: Reply) -> Answer
 }
 
 // One command. `reply` is what `seen` gave for it.
+#[tactic(auto, using(crate::proofs::Ways::cycle_way, crate::proofs::Ways::turn_way, crate::proofs::Ways::commit_way, crate::proofs::Ways::rest_way))]
 pub fn answer(
     s: State,
     sound: bool,

@@ -1,5 +1,7 @@
 // The conversion factor C = (p/pb)·(Tb/T)·(1/K), in hundred-thousandths, to the nearest whole number.
 // The fraction's numerator passes 64 bits, so it is divided in two steps, as by hand.
+#![tactic(auto)]
+
 ghost use Rattle.std.specs.Prelude.{◌≡◌, true, ◌*◌, ◌≤◌};
 ghost use Rattle.factor.specs.Factor.{nearest_fraction, factor_of};
 ghost use Rattle.factor.specs.Plan.{in_range, in_ranges, factor_guarded};
@@ -12,6 +14,7 @@ const SECOND_STEP: u64 = 1000;
 
 const FIRST_STEP: u64 = 100 * ranges::K_SCALE;
 
+#[tactic(auto, unfolding(crate::specs::Plan::in_range))]
 fn in_range(low: u64, high: u64, x: u64) -> bool
     ensures { result ≡ in_range low high x }
 {
@@ -20,6 +23,7 @@ fn in_range(low: u64, high: u64, x: u64) -> bool
     ground::both(not_below, not_above)
 }
 
+#[tactic(auto, unfolding(crate::specs::Plan::in_ranges))]
 fn in_ranges(p: u64, tb: u64, pb: u64, t: u64, k: u64) -> bool
     ensures { result ≡ in_ranges p tb pb t k }
 {
@@ -35,6 +39,7 @@ fn in_ranges(p: u64, tb: u64, pb: u64, t: u64, k: u64) -> bool
 }
 
 // Nearest to x·1000/d, halves up.
+#[tactic(auto, using(crate::proofs::Division::parts, crate::proofs::Division::long_division, crate::proofs::Division::round_up, crate::proofs::Division::round_down))]
 fn nearest(x: u64, d: u64) -> u64
     requires { (2000 ≤ d) × (d ≤ 9000000000000000) }
     ensures { result ≡ nearest_fraction (x * 1000) d }
@@ -48,6 +53,7 @@ fn nearest(x: u64, d: u64) -> u64
     if d <= 2 * r2 { q + 1 } else { q }
 }
 
+#[tactic(auto, using(crate::proofs::Ranges::products), unfolding(crate::specs::Factor::factor_of))]
 fn factor(p: u64, tb: u64, pb: u64, t: u64, k: u64) -> u64
     requires { in_ranges p tb pb t k ≡ true }
     ensures { result ≡ factor_of p tb pb t k }
@@ -59,6 +65,7 @@ fn factor(p: u64, tb: u64, pb: u64, t: u64, k: u64) -> u64
 
 // The factor of a cycle. Outside the ranges of its inputs the products might not fit 64 bits, so it gives 0 there; a whole device never
 // asks that.
+#[tactic(auto, unfolding(crate::specs::Plan::factor_guarded))]
 pub fn factor_taken(p: u64, tb: u64, pb: u64, t: u64, k: u64) -> u64
     ensures { result ≡ factor_guarded p tb pb t k }
 {

@@ -1,4 +1,6 @@
 // Lines by the block: the whole lines of an input are put to a desk, and what is said to them is written as lines.
+#![tactic(auto)]
+
 ghost use Rattle.std.specs.Prelude.{◌≡◌, ◌++◌, ◌≤◌, min, length, take, drop};
 ghost use Rattle.desk.specs.Desk.{block};
 ghost use Rattle.lines.specs.Lines.{inputs_in, echo_lines, room, Fronted, answers_of, answer_text};
@@ -10,7 +12,7 @@ use text::words::LINE_FEED;
 pub const ROOM: usize = text::echoes::ROOM * desk::BLOCK;
 
 // Entries for the desk, and how many bytes of the input their lines took.
-#[derive(Drop)]
+#[derive(Clone, Copy)]
 pub struct Inputs {
     pub count: usize,
     pub inputs: [Input; desk::BLOCK],
@@ -18,7 +20,7 @@ pub struct Inputs {
 }
 
 // The desk after some lines, how many bytes of the input they took, and how many bytes of answers were written.
-#[derive(Drop)]
+#[derive(Clone, Copy)]
 pub struct Answers {
     pub desk: Desk,
     pub at: usize,
@@ -26,6 +28,7 @@ pub struct Answers {
 }
 
 // The entries of the first whole lines of the input, in order; at most a block of them.
+#[tactic(auto, using(text::proofs::Bytes::the_rest, crate::proofs::Cuts::Taken, crate::proofs::Cuts::none_taken, crate::proofs::Cuts::line_more, crate::proofs::Cuts::no_more, crate::proofs::Cuts::full))]
 pub fn inputs_in(input: &[u8]) -> Inputs
     ensures { result ≡ inputs_in input.now }
 {
@@ -57,6 +60,7 @@ pub fn inputs_in(input: &[u8]) -> Inputs
 }
 
 // Writes a line for each of the first `count` answers, and says how many bytes they take together.
+#[tactic(auto, using(crate::proofs::Fronts::Echoed, crate::proofs::Fronts::none_echoed, crate::proofs::Fronts::echo_more, crate::proofs::Fronts::all_echoed))]
 fn put_echoes(out: &mut [u8], responses: [Response; desk::BLOCK], count: usize) -> usize
     requires { room ≤ length out.old }
     ensures { Fronted out.old out.new (echo_lines (take (min count block) responses)) result }
@@ -77,6 +81,7 @@ fn put_echoes(out: &mut [u8], responses: [Response; desk::BLOCK], count: usize) 
 
 // Puts the first whole lines of the input, at most a block, to the desk, and writes the answers at the front of `out`. If `out` has not room for a block of the
 // longest lines, nothing is put to the desk: no answer is ever lost.
+#[tactic(auto, using(crate::proofs::Fronts::none_served, crate::proofs::Fronts::block_served))]
 pub fn answer(d: Desk, input: &[u8], out: &mut [u8]) -> Answers
     ensures { (result ≡ answers_of d input.now out.old)
         × (out.new ≡ answer_text d input.now out.old ++ drop result.used out.old) }

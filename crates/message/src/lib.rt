@@ -1,11 +1,13 @@
 // The data message of a readout: six values in litres as 156 bytes, put into a buffer that the caller lends. Each byte is put in its place once. The check is taken
 // from the bytes as they stand.
+#![tactic(auto)]
+
 ghost use Rattle.std.specs.Prelude.{◌≡◌, ◌+◌, ◌≤◌, length};
 ghost use Rattle.spelling.specs.Spelling.{Put, digits};
 ghost use Rattle.message.specs.Message.{line, body, xor_of, written};
 
 // Litres, in the order of the message's lines. A value has room below 10^12; of a larger one the last twelve digits are written.
-#[derive(Drop)]
+#[derive(Clone, Copy)]
 pub struct Values {
     pub vb: u64,
     pub vbd: u64,
@@ -52,6 +54,7 @@ const TEN: u64 = 10;
 
 // Each of these puts its text at a place of `out` and answers the place after it.
 
+#[tactic(auto, using(spelling::proofs::Lent::text_at))]
 fn put_text(out: &mut [u8], at: usize, text: &[u8]) -> usize
     requires { at + length text.now ≤ length out.old }
     ensures { Put (length text.now) out.old out.new at result text.now }
@@ -61,6 +64,7 @@ fn put_text(out: &mut [u8], at: usize, text: &[u8]) -> usize
     next
 }
 
+#[tactic(auto, using(spelling::proofs::Lent::digits_at), unfolding(spelling::specs::Spelling::spellable))]
 fn put_digits(out: &mut [u8], at: usize, k: usize, n: u64) -> usize
     requires { at + k ≤ length out.old }
     ensures { Put k out.old out.new at result (digits 10 k n) }
@@ -71,6 +75,7 @@ fn put_digits(out: &mut [u8], at: usize, k: usize, n: u64) -> usize
 }
 
 // A line: the address, and the value in nine digits, a point and three decimals.
+#[tactic(auto, using(spelling::proofs::Puts::two), unfolding(crate::specs::Message::line, crate::specs::Message::cubic_metres))]
 fn put_line(out: &mut [u8], at: usize, address: [u8; 5], litres: u64) -> usize
     requires { at + 25 ≤ length out.old }
     ensures { Put 25 out.old out.new at result (line address litres) }
@@ -84,6 +89,7 @@ fn put_line(out: &mut [u8], at: usize, address: [u8; 5], litres: u64) -> usize
 }
 
 // The six lines, and what ends the message before its check.
+#[tactic(auto, using(spelling::proofs::Puts::two), unfolding(crate::specs::Message::body))]
 fn put_body(out: &mut [u8], at: usize, v: Values) -> usize
     requires { at + 154 ≤ length out.old }
     ensures { Put 154 out.old out.new at result (body v) }
@@ -98,6 +104,7 @@ fn put_body(out: &mut [u8], at: usize, v: Values) -> usize
 }
 
 // The exclusive-or of all bytes of a part.
+#[tactic(auto, using(crate::proofs::Check::starts, crate::proofs::Check::takes_one, crate::proofs::Check::ends))]
 fn xor_of(part: &[u8]) -> u8
     ensures { result ≡ xor_of part.now }
 {
@@ -111,6 +118,7 @@ fn xor_of(part: &[u8]) -> u8
 }
 
 // Writes the message at the front of a buffer. Bytes past it stay, and so does a buffer that is too short.
+#[tactic(auto, using(crate::proofs::Whole::long, crate::proofs::Whole::whole, crate::proofs::Whole::too_short))]
 pub fn write(values: Values, buffer: &mut [u8])
     ensures { buffer.new ≡ written values buffer.old }
 {

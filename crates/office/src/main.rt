@@ -1,5 +1,7 @@
 // The office's reader: takes a captured message from standard input, raw, and prints its six values in litres or the number that it is refused with. A read or a write
 // that fails is reported on standard error, and then no values are printed.
+#![tactic(auto)]
+
 ghost use Rattle.std.specs.Prelude.{◌≡◌, ◌+◌, ◌≤◌, length};
 ghost use Rattle.spelling.specs.Spelling.{Put};
 ghost use Rattle.reader.specs.Reader.{parsed};
@@ -11,7 +13,7 @@ use libc::{STDERR_FILENO, STDIN_FILENO, STDOUT_FILENO};
 const MOST: usize = message::SIZE + 1;
 
 // How many bytes were read: none at the end of the input, or if a read failed.
-#[derive(Drop)]
+#[derive(Clone, Copy)]
 struct More {
     n: usize,
     failed: bool,

@@ -1,6 +1,8 @@
 // The pulse outputs (document 02, Three): the rule of one output by value, and the four by one loop each. An account counts in the unit of the counter that its output
 // follows: litres for Vm, VmD and VmT, hundred-thousandths of a litre for Vb, VbD and VbT. It is a type of its own, so that neither unit is added to it by mistake:
 // `weight_in` and `gain_in` alone make an amount of it, both by the same choice.
+#![tactic(auto)]
+
 ghost use Rattle.std.specs.Prelude.{◌≡◌, ◌<◌, ◌≤◌, if◌then◌else◌};
 ghost use Rattle.ground.specs.Ranges.{most_weight};
 ghost use Rattle.outputs.specs.Outputs.{followed, litre_in, weight_in, gain_in, account_of, credited_by, gained_by, ticked_by, committed_by, output_b, fresh_output};
@@ -26,18 +28,18 @@ const LOST_ROLLOVER: u64 = 4_294_967_296;
 const MOST_ACCOUNT: u64 = MOST_WEIGHT * LITRE_AT_BASE;
 
 // An amount in the unit of the counter that the output follows.
-#[derive(Drop)]
+#[derive(Clone, Copy)]
 pub struct Account(pub u64);
 
 // The two settings of an output: what it follows, and its weight in litres a pulse.
-#[derive(Drop)]
+#[derive(Clone, Copy)]
 pub struct Rule {
     pub choice: u64,
     pub weight: u64,
 }
 
 // What an accepted cycle counts, and whether it goes to the disturbed counters.
-#[derive(Drop)]
+#[derive(Clone, Copy)]
 pub struct Gain {
     pub disturbed: bool,
     pub litres: Litres,
@@ -45,7 +47,7 @@ pub struct Gain {
 }
 
 // What waits and what was lost have the widths of their limits: more than 65,535 cannot wait, and the lost counter cannot reach 2^32.
-#[derive(Drop)]
+#[derive(Clone, Copy)]
 pub struct Output {
     pub account: Account,
     pub waiting: u16,
@@ -53,7 +55,7 @@ pub struct Output {
 }
 
 // A buffer while pulses go in; `over` says that some were lost.
-#[derive(Drop)]
+#[derive(Clone, Copy)]
 struct Buffer {
     waiting: u16,
     lost: u32,
@@ -61,32 +63,32 @@ struct Buffer {
 }
 
 // An output after a cycle; `over` asks for its line in the logbook.
-#[derive(Drop)]
+#[derive(Clone, Copy)]
 pub struct Gained {
     pub output: Output,
     pub over: bool,
 }
 
-#[derive(Drop)]
+#[derive(Clone, Copy)]
 pub struct Ticked {
     pub output: Output,
     pub emitted: u16,
 }
 
-#[derive(Drop)]
+#[derive(Clone, Copy)]
 pub struct AllGained {
     pub outputs: [Output; COUNT],
     pub over: [bool; COUNT],
 }
 
-#[derive(Drop)]
+#[derive(Clone, Copy)]
 pub struct AllTicked {
     pub outputs: [Output; COUNT],
     pub emitted: [u16; COUNT],
 }
 
 // What a report shows of an output. The account is in hundred-thousandths of a litre, whatever the output follows.
-#[derive(Drop)]
+#[derive(Clone, Copy)]
 pub struct Shown {
     pub account: u64,
     pub waiting: u16,
@@ -95,7 +97,7 @@ pub struct Shown {
 
 // Of the four outputs, side by side. What is answered to a command is an enum, and an enum may hold no array.
 
-#[derive(Drop)]
+#[derive(Clone, Copy)]
 pub struct Emitted {
     pub one: u16,
     pub two: u16,
@@ -103,7 +105,7 @@ pub struct Emitted {
     pub four: u16,
 }
 
-#[derive(Drop)]
+#[derive(Clone, Copy)]
 pub struct AllShown {
     pub one: Shown,
     pub two: Shown,
@@ -113,6 +115,7 @@ pub struct AllShown {
 
 // ---- choice and weight
 
+#[tactic(auto, unfolding(crate::specs::Four::rule_at))]
 fn rule_at(a: [Setting; settings::COUNT], k: usize) -> Rule
     requires { k < output_count }
     ensures { result ≡ rule_at a k }
@@ -126,6 +129,7 @@ fn rule_at(a: [Setting; settings::COUNT], k: usize) -> Rule
 }
 
 // A weight above the most is no setting. Its product might not fit 64 bits, so such an output is taken as off.
+#[tactic(auto, unfolding(crate::specs::Plan::guarded_by))]
 fn guarded_by(r: Rule) -> Rule
     ensures { result ≡ guarded_by r }
 {
@@ -141,6 +145,7 @@ fn guarded_by(r: Rule) -> Rule
 }
 
 // A litre in the unit of the counter that is followed; 0 where the output is off or the choice is none.
+#[tactic(auto, using(crate::proofs::Choices::none_is, crate::proofs::Choices::as_litre), unfolding(crate::specs::Outputs::choices, crate::specs::Outputs::followed, crate::specs::Outputs::litre_on, crate::specs::Outputs::litre_in))]
 fn litre_in(choice: u64) -> u64
     ensures { result ≡ litre_in (followed choice) }
 {
@@ -155,6 +160,7 @@ fn litre_in(choice: u64) -> u64
     }
 }
 
+#[tactic(auto, using(crate::proofs::Choices::litre_most), unfolding(crate::specs::Outputs::weight_in))]
 fn weight_in(r: Rule) -> Account
     requires { r.weight ≤ most_weight }
     ensures { result ≡ account_of (weight_in r) }
@@ -172,6 +178,7 @@ fn pick(t: bool, a: u64, b: u64) -> u64
 }
 
 // What the counter that is followed gains; 0 where the output is off or the choice is none.
+#[tactic(auto, using(crate::proofs::Choices::none_is, crate::proofs::Choices::as_gain), unfolding(crate::specs::Outputs::choices, crate::specs::Outputs::followed, crate::specs::Outputs::gain_by))]
 fn gain_in(choice: u64, g: Gain) -> Account
     ensures { result ≡ account_of (gain_in choice g) }
 {
@@ -189,6 +196,7 @@ fn gain_in(choice: u64, g: Gain) -> Account
 }
 
 // Pulses due go to the buffer. They are compared with the room that is left, so that no number of them overflows.
+#[tactic(auto, using(crate::proofs::Buffers::push_fits, crate::proofs::Buffers::push_over))]
 fn push(b: Buffer, due: u64) -> Buffer
     ensures { result ≡ pushed due b }
 {
@@ -212,6 +220,7 @@ fn push(b: Buffer, due: u64) -> Buffer
     }
 }
 
+#[tactic(auto, unfolding(crate::specs::Plan::buffer_of))]
 fn buffer_of(o: Output) -> Buffer
     ensures { result ≡ buffer_of o }
 {
@@ -222,6 +231,7 @@ fn buffer_of(o: Output) -> Buffer
     }
 }
 
+#[tactic(auto, unfolding(crate::specs::Plan::gained_of))]
 fn gained_of(account: u64, b: Buffer) -> Gained
     ensures { result ≡ gained_of account b }
 {
@@ -237,6 +247,7 @@ fn gained_of(account: u64, b: Buffer) -> Gained
 }
 
 // The whole weights of the account, of the gain and of what both leave go to the buffer one after another, because the sum of account and gain might not fit 64 bits.
+#[tactic(auto, using(crate::proofs::Wholes::rest_is, crate::proofs::Wholes::wholes_parts, crate::proofs::Buffers::push_twice, crate::proofs::Credited::credited, crate::proofs::Credited::none_credited))]
 fn count(o: Output, weight: Account, gain: Account) -> Gained
     requires { weight.0 ≤ most_account }
     ensures { result ≡ credited_by weight.0 gain.0 o }
@@ -257,6 +268,7 @@ fn count(o: Output, weight: Account, gain: Account) -> Gained
 }
 
 // Most outputs are off, and there is nothing to work out for them.
+#[tactic(auto, using(crate::proofs::Choices::weight_most, crate::proofs::Credited::off_gained), unfolding(crate::specs::Outputs::gained_by))]
 fn after_gain(o: Output, r: Rule, g: Gain) -> Gained
     requires { r.weight ≤ most_weight }
     ensures { result ≡ gained_by r g o }
@@ -272,6 +284,7 @@ fn after_gain(o: Output, r: Rule, g: Gain) -> Gained
 
 // ---- a tick
 
+#[tactic(auto, unfolding(crate::specs::Outputs::ticked_by))]
 fn after_tick(o: Output, n: u64) -> Ticked
     ensures { result ≡ ticked_by n o }
 {
@@ -303,6 +316,7 @@ fn after_tick(o: Output, n: u64) -> Ticked
 
 // ---- a commit
 
+#[tactic(auto, unfolding(crate::specs::Outputs::committed_by, crate::specs::Outputs::same_rule))]
 fn after_commit(o: Output, old: Rule, new: Rule) -> Output
     ensures { result ≡ committed_by old new o }
 {
@@ -323,6 +337,7 @@ fn after_commit(o: Output, old: Rule, new: Rule) -> Output
 // ---- when an output is whole
 
 // The account is compared in whole litres, so that no weight overflows. What waits and what was lost are in range by their widths.
+#[tactic(auto, using(ground::proofs::Flags::Either, ground::proofs::Flags::is_true, ground::proofs::Flags::is_false, ground::proofs::Flags::either_of), unfolding(crate::specs::Outputs::output_b, crate::specs::Outputs::account_b, crate::specs::Outputs::weight_in))]
 fn output_ok(o: Output, r: Rule) -> bool
     ensures { result ≡ output_b r o }
 {
@@ -340,6 +355,7 @@ fn output_ok(o: Output, r: Rule) -> bool
 // ---- what a report shows
 
 // An account above the largest weight is in no whole state, and its product might not fit 64 bits.
+#[tactic(auto, unfolding(crate::specs::Plan::account_guarded, crate::specs::Outputs::account_shown))]
 fn account_shown(choice: u64, account: u64) -> u64
     ensures { result ≡ account_guarded choice account }
 {
@@ -355,6 +371,7 @@ fn account_shown(choice: u64, account: u64) -> u64
     }
 }
 
+#[tactic(auto, unfolding(crate::specs::Plan::shown_guarded))]
 fn output_shown(o: Output, r: Rule) -> Shown
     ensures { result ≡ shown_guarded r o }
 {
@@ -379,6 +396,7 @@ fn fresh_output() -> Output
     }
 }
 
+#[tactic(auto, unfolding(crate::specs::Four::fresh_outputs))]
 pub fn fresh_outputs() -> [Output; COUNT]
     ensures { result ≡ fresh_outputs }
 {
@@ -387,6 +405,7 @@ pub fn fresh_outputs() -> [Output; COUNT]
 }
 
 // After an accepted cycle, by the settings in force.
+#[tactic(auto, using(ground::proofs::Flags::whichever, ground::proofs::Listed::put_each, ground::proofs::Listed::all_put), unfolding(crate::specs::Plan::guarded_by, ground::specs::Below::in_turn, crate::specs::Plan::rule_guarded, crate::specs::Four::all_gained))]
 pub fn after_gains(o: [Output; COUNT], a: [Setting; settings::COUNT], g: Gain) -> AllGained
     ensures { result ≡ all_gained (rule_guarded a) g o }
 {
@@ -408,6 +427,7 @@ pub fn after_gains(o: [Output; COUNT], a: [Setting; settings::COUNT], g: Gain) -
     }
 }
 
+#[tactic(auto, unfolding(crate::specs::Four::none_gained))]
 pub fn no_gains(o: [Output; COUNT]) -> AllGained
     ensures { result ≡ none_gained o }
 {
@@ -417,6 +437,7 @@ pub fn no_gains(o: [Output; COUNT]) -> AllGained
     }
 }
 
+#[tactic(auto, using(ground::proofs::Listed::put_each, ground::proofs::Listed::all_put), unfolding(ground::specs::Below::in_turn, crate::specs::Four::all_ticked))]
 pub fn after_ticks(o: [Output; COUNT], n: u64) -> AllTicked
     ensures { result ≡ all_ticked n o }
 {
@@ -437,6 +458,7 @@ pub fn after_ticks(o: [Output; COUNT], n: u64) -> AllTicked
 }
 
 // After an accepted commit: the settings before it, and as they stand now.
+#[tactic(auto, using(ground::proofs::Listed::put_each, ground::proofs::Listed::all_put), unfolding(ground::specs::Below::in_turn, crate::specs::Four::all_committed))]
 pub fn after_commits(
     o: [Output; COUNT],
     a: [Setting; settings::COUNT],
@@ -454,6 +476,7 @@ pub fn after_commits(
     outputs
 }
 
+#[tactic(auto, unfolding(ground::specs::Below::all_below, crate::specs::Four::outputs_b))]
 pub fn outputs_ok(o: [Output; COUNT], a: [Setting; settings::COUNT]) -> bool
     ensures { result ≡ outputs_b (rule_at a) o }
 {
@@ -468,6 +491,7 @@ pub fn outputs_ok(o: [Output; COUNT], a: [Setting; settings::COUNT]) -> bool
     good
 }
 
+#[tactic(auto, using(ground::proofs::Listed::put_each, ground::proofs::Listed::all_put), unfolding(ground::specs::Below::in_turn, crate::specs::Plan::all_shown_guarded))]
 pub fn outputs_shown(o: [Output; COUNT], a: [Setting; settings::COUNT]) -> [Shown; COUNT]
     ensures { result ≡ all_shown_guarded a o }
 {

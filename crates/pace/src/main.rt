@@ -1,6 +1,8 @@
 // Puts one block of commands to a desk again and again, so that the device can be timed without its text. The first line of standard input is the number of passes;
 // the block's commands follow. A pass is what the bench does with a block between reading its lines and writing its answers. Prints how many commands the last pass
 // accepted.
+#![tactic(auto)]
+
 use commands::{Echo, Reply};
 use desk::{Desk, Input, Response};
 use libc::{STDIN_FILENO, STDOUT_FILENO};

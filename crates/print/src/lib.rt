@@ -1,4 +1,6 @@
 // How the trial programs and the card print to standard output: words, numbers, floats by their bits, and bytes. `number`, `signed`, `flag` and `float` put a space first.
+#![tactic(auto)]
+
 ghost use Rattle.std.specs.Prelude.{◌≡◌, ◌<◌, true};
 
 use libc::STDOUT_FILENO;
@@ -121,12 +123,14 @@ pub fn hex(s: &[u8]) {
 }
 
 // One less. Below the lowest number there is none: it stays.
+#[tactic(auto, using(crate::proofs::Steps::down))]
 pub fn one_below(n: i64) -> i64 {
     let room = LEAST < n;
     if room { n - 1 } else { n }
 }
 
 // One more. Above the highest number there is none: it stays.
+#[tactic(auto, using(crate::proofs::Steps::up))]
 pub fn one_above(n: i64) -> i64 {
     let room = n < MOST;
     if room { n + 1 } else { n }

@@ -1,5 +1,7 @@
 // The readout read back: a message of 156 bytes into its six values in litres. It is compared with what `message::write` writes for the values that its digits spell, so
 // that the form of a message stands in one place.
+#![tactic(auto)]
+
 ghost use Rattle.std.specs.Prelude.{◌≡◌, ◌≤◌, ◌<◌, length, replicate};
 ghost use Rattle.message.specs.Message.{size};
 ghost use Rattle.reader.specs.Reader.{decimal_in, litres_on, values_on, answer_by, parsed};
@@ -7,7 +9,7 @@ ghost use Rattle.reader.specs.Reader.{decimal_in, litres_on, values_on, answer_b
 use message::Values;
 
 // The six values, or the number of a refusal and no values.
-#[derive(Drop)]
+#[derive(Clone, Copy)]
 pub enum Parsed {
     Accepted(Values),
     Refused(u64),
@@ -31,6 +33,7 @@ const FIRST_DIGIT: usize = 7;
 const LINE_LENGTH: usize = 25;
 
 // The number that the digits of a part spell. A byte that is no digit counts something too: that it is none shows when the message is compared.
+#[tactic(auto, using(spelling::proofs::Spells::no_more_than, crate::proofs::Digits::none_yet, crate::proofs::Digits::digit_more, crate::proofs::Digits::all_read_lem, crate::proofs::Digits::small))]
 fn number(part: &[u8]) -> u64
     requires { length part.now ≤ 12 }
     ensures { result ≡ decimal_in part.now }
@@ -45,6 +48,7 @@ fn number(part: &[u8]) -> u64
 }
 
 // What line k says, counted from 0: nine digits of cubic metres, and three of litres behind the point.
+#[tactic(auto, using(crate::proofs::Places::nine_small, crate::proofs::Places::three_small, crate::proofs::Places::litres_is))]
 fn litres_on(bytes: &[u8], k: usize) -> u64
     requires { (size ≤ length bytes.now) × (k < 6) }
     ensures { result ≡ litres_on k bytes.now }
@@ -56,6 +60,7 @@ fn litres_on(bytes: &[u8], k: usize) -> u64
     1000 * number(&bytes[nine..point]) + number(&bytes[three..end])
 }
 
+#[tactic(auto, unfolding(crate::specs::Reader::values_on))]
 fn values_on(bytes: &[u8]) -> Values
     requires { size ≤ length bytes.now }
     ensures { result ≡ values_on bytes.now }
@@ -77,6 +82,7 @@ fn values_on(bytes: &[u8]) -> Values
 }
 
 // The form comes before the check.
+#[tactic(auto, unfolding(crate::specs::Reader::answer_by))]
 fn answer_by(form: bool, check: bool, values: Values) -> Parsed
     ensures { result ≡ answer_by form check values }
 {
@@ -99,6 +105,7 @@ fn blank() -> [u8; message::SIZE]
 }
 
 // Reads any bytes. If some values have this message, they are those that its digits spell; so it is enough to compare with the message of these.
+#[tactic(auto, using(crate::proofs::Compared::other_length, crate::proofs::Compared::compared))]
 pub fn parse(bytes: &[u8]) -> Parsed
     ensures { result ≡ parsed bytes.now }
 {

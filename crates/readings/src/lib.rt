@@ -1,4 +1,6 @@
 // The three readings of a cycle: what is taken for p, T and K, and whether the alarm is present.
+#![tactic(auto)]
+
 ghost use Rattle.std.specs.Prelude.{◌≡◌};
 ghost use Rattle.readings.specs.Taken.{taken_within};
 ghost use Rattle.readings.specs.Pressure.{pressure_taken};
@@ -8,37 +10,38 @@ ghost use Rattle.readings.specs.Plan.{kelvin_guarded};
 
 use ground::ranges;
 
-#[derive(Drop)]
+#[derive(Clone, Copy)]
 pub enum RawTemperature {
     Failed,
     Raw(u16),
 }
 
-#[derive(Drop)]
+#[derive(Clone, Copy)]
 pub enum Pressure {
     Failed,
     Pascals(u64),
 }
 
-#[derive(Drop)]
+#[derive(Clone, Copy)]
 pub enum Compressibility {
     NotComputed,
     Computed(u64),
 }
 
 // What goes into the factor, and whether the alarm is present in this cycle.
-#[derive(Drop)]
+#[derive(Clone, Copy)]
 pub struct Taken {
     pub alarm: bool,
     pub value: u64,
 }
 
-#[derive(Drop)]
+#[derive(Clone, Copy)]
 pub struct TakenTemperature {
     pub alarm: bool,
     pub value: i64,
 }
 
+#[tactic(auto, unfolding(crate::specs::Taken::taken_within))]
 fn taken_within(lowest: u64, highest: u64, fixed: u64, x: u64) -> Taken
     ensures { result ≡ taken_within lowest highest fixed x }
 {
@@ -57,6 +60,7 @@ fn taken_within(lowest: u64, highest: u64, fixed: u64, x: u64) -> Taken
 }
 
 // In this order: Md.p, pMin, pMax, p.F and the reading.
+#[tactic(auto, unfolding(crate::specs::Pressure::pressure_taken, crate::specs::Pressure::pressure_read))]
 pub fn pressure_taken(mode: u64, lowest: u64, highest: u64, fixed: u64, reading: Pressure) -> Taken
     ensures { result ≡ pressure_taken mode lowest highest fixed reading }
 {
@@ -77,6 +81,7 @@ pub fn pressure_taken(mode: u64, lowest: u64, highest: u64, fixed: u64, reading:
 }
 
 // In this order: Md.K, K.F and the reading.
+#[tactic(auto, unfolding(crate::specs::Compressibility::k_taken, crate::specs::Compressibility::k_read))]
 pub fn k_taken(mode: u64, fixed: u64, reading: Compressibility) -> Taken
     ensures { result ≡ k_taken mode fixed reading }
 {
@@ -96,6 +101,7 @@ pub fn k_taken(mode: u64, fixed: u64, reading: Compressibility) -> Taken
     taken_within(ranges::LEAST_K, ranges::MOST_K, fixed, k)
 }
 
+#[tactic(auto, using(ground::proofs::Signed::lt_back), unfolding(crate::specs::Temperature::measured_taken))]
 fn measured_taken(
     lowest: i64,
     highest: i64,
@@ -125,6 +131,7 @@ fn measured_taken(
 }
 
 // In this order: Md.T, TMin, TMax, T.F, the three coefficients and the reading.
+#[tactic(auto, unfolding(crate::specs::Temperature::temperature_taken, crate::specs::Temperature::temperature_read))]
 pub fn temperature_taken(
     mode: u64,
     lowest: i64,
@@ -152,6 +159,7 @@ pub fn temperature_taken(
 }
 
 // T in kelvin. Outside the range of T the sum might not fit, so it gives 0 there; no setting and no T.Mes lies there.
+#[tactic(auto, using(ground::proofs::Flags::or_false_left, ground::proofs::Flags::or_false_right, ground::proofs::Signed::lt_back, ground::proofs::Signed::Cast, ground::proofs::Signed::cast, ground::proofs::Signed::shifted), unfolding(crate::specs::Plan::kelvin_guarded, crate::specs::Kelvin::kelvin_of))]
 pub fn kelvin(t: i64) -> u64
     ensures { result ≡ kelvin_guarded t }
 {

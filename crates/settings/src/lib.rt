@@ -1,5 +1,7 @@
 // The settings of the corrector: which values fit, and which locks give the right to change them, each read from the setting's row in the table. A setting is named here by
 // its place in the table, from 0: its number less one.
+#![tactic(auto)]
+
 pub mod table;
 
 ghost use Rattle.std.specs.Prelude.{◌≡◌, get_or, set};
@@ -29,24 +31,26 @@ use table::{Pair, Row, lock_of, pair_of, row_of};
 // How many settings there are.
 pub const COUNT: usize = 29;
 
-#[derive(Drop)]
+#[derive(Clone, Copy)]
 pub enum Value {
     Whole(i64),
     Coefficient(f64),
 }
 
-#[derive(Drop)]
+#[derive(Clone, Copy)]
 pub struct Setting {
     pub value: Value,
 }
 
 // f - f is 0 exactly when f is finite; for an infinity or a NaN it is NaN.
+#[tactic(auto, using(crate::proofs::Floats::less_itself))]
 fn finite(f: f64) -> bool
     ensures { result ≡ is_finite f }
 {
     f - f == 0.0
 }
 
+#[tactic(auto, using(ground::proofs::Signed::lt_back), unfolding(crate::specs::Settings::within_b))]
 fn within(lowest: i64, highest: i64, n: i64) -> bool
     ensures { result ≡ within_b lowest highest n }
 {
@@ -61,6 +65,7 @@ fn within(lowest: i64, highest: i64, n: i64) -> bool
     true
 }
 
+#[tactic(auto, using(crate::proofs::Numbers::back), unfolding(crate::specs::Settings::fits_row))]
 fn row_fits(r: Row, v: Value) -> bool
     ensures { result ≡ fits_row r v }
 {
@@ -78,6 +83,7 @@ fn row_fits(r: Row, v: Value) -> bool
 }
 
 // Refusal 9 is given exactly when this is false.
+#[tactic(auto, unfolding(crate::specs::Settings::fits_b))]
 pub fn setting_fits(k: usize, v: Value) -> bool
     ensures { result ≡ fits_b k v }
 {
@@ -85,6 +91,7 @@ pub fn setting_fits(k: usize, v: Value) -> bool
     if known { row_fits(row_of(k), v) } else { false }
 }
 
+#[tactic(auto, unfolding(crate::specs::Settings::factory_of))]
 pub fn factory(k: usize) -> Setting
     ensures { result ≡ factory_of (row_of k) }
 {
@@ -118,6 +125,7 @@ pub fn setting_put(a: [Setting; COUNT], k: usize, x: Setting) -> [Setting; COUNT
     }
 }
 
+#[tactic(auto, unfolding(ground::specs::Below::in_turn, crate::specs::Settings::rows, crate::specs::Settings::row_of, crate::specs::Settings::factory_of, crate::specs::Settings::factory_settings))]
 pub fn factory_settings() -> [Setting; COUNT]
     ensures { result ≡ factory_settings }
 {
@@ -131,6 +139,7 @@ pub fn factory_settings() -> [Setting; COUNT]
     a
 }
 
+#[tactic(auto, using(crate::proofs::Numbers::back))]
 pub fn whole_of(v: Value) -> i64
     ensures { result ≡ whole_of v }
 {
@@ -140,6 +149,7 @@ pub fn whole_of(v: Value) -> i64
     }
 }
 
+#[tactic(auto, using(crate::proofs::Numbers::clip_zero, crate::proofs::Numbers::clip_same, crate::proofs::Numbers::clip_casts))]
 pub fn natural_of(v: Value) -> u64
     ensures { result ≡ natural_of v }
 {
@@ -165,6 +175,7 @@ pub fn coefficient_of(v: Value) -> f64
 }
 
 // The rule of rights: whether one of the locks that the lock's row names is open.
+#[tactic(auto, unfolding(crate::specs::Settings::opens_b))]
 pub fn lock_opens(lock: u8, cal: bool, sup: bool, cust: bool) -> bool
     ensures { result ≡ opens_b lock cal sup cust }
 {
@@ -175,6 +186,7 @@ pub fn lock_opens(lock: u8, cal: bool, sup: bool, cust: bool) -> bool
     either(first, either(second, third))
 }
 
+#[tactic(auto, unfolding(crate::specs::Settings::right_b))]
 pub fn right_for(k: usize, cal: bool, sup: bool, cust: bool) -> bool
     ensures { result ≡ right_b k cal sup cust }
 {
@@ -182,6 +194,7 @@ pub fn right_for(k: usize, cal: bool, sup: bool, cust: bool) -> bool
     lock_opens(r.lock, cal, sup, cust)
 }
 
+#[tactic(auto, unfolding(ground::specs::Below::all_below, crate::specs::Settings::fits_at, crate::specs::Settings::settings_fit_b))]
 pub fn settings_fit(a: [Setting; COUNT]) -> bool
     ensures { result ≡ settings_fit_b a }
 {
@@ -209,6 +222,7 @@ fn in_order_lem(a: [Setting; COUNT], p: Pair) -> bool
 }
 
 // Refusal 12 is given exactly when this is false of the settings as they would stand.
+#[tactic(auto, unfolding(ground::specs::Below::all_below, crate::specs::Settings::ordered_at, crate::specs::Settings::ordered_b))]
 pub fn pairs_ordered(a: [Setting; COUNT]) -> bool
     ensures { result ≡ ordered_b a }
 {

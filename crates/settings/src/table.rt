@@ -13,7 +13,7 @@ pub const NAME: usize = 18;
 pub const UNIT: usize = 45;
 
 // A row, in the order of the card: number, name, unit, kind, range, factory value, lock. A coefficient has no range: its two ends are 0 and mean nothing.
-#[derive(Drop)]
+#[derive(Clone, Copy)]
 pub struct Row {
     pub number: u64,
     pub name: [u8; NAME],
@@ -42,7 +42,7 @@ pub const CUST: u8 = 3;
 pub const CLEAR: u8 = SUP;
 
 // A lock's row: its number, its name, and which of the three locks give the right that it stands for, each by itself.
-#[derive(Drop)]
+#[derive(Clone, Copy)]
 pub struct Lock {
     pub number: u8,
     pub name: [u8; LOCK_NAME],
@@ -64,6 +64,7 @@ fn lock_row(number: u8, name: [u8; LOCK_NAME], cal: bool, sup: bool, cust: bool)
 }
 
 // "cal" needs lock 1, "sup" lock 1 or 2, "cust" any of the three.
+#[tactic(auto, using(ground::proofs::Table::NoneFrom, ground::proofs::Table::past, ground::proofs::Table::arm), unfolding(crate::specs::Settings::lock_row_of, crate::specs::Settings::locks))]
 pub fn lock_of(lock: u8) -> Lock
     ensures { result ≡ lock_row_of lock }
 {
@@ -317,6 +318,7 @@ fn float_row(number: u64, name: [u8; NAME], unit: [u8; UNIT], factory: f64, lock
 
 // The table. After the unit: lowest and highest value, factory value and lock; a coefficient has only the last two. It is a `match` and not an array, because a constant
 // array would be copied to the stack at each use.
+#[tactic(auto, using(ground::proofs::Table::arm, ground::proofs::Table::last_arm), unfolding(crate::specs::Settings::row_of, crate::specs::Settings::rows))]
 pub fn row_of(k: usize) -> Row
     ensures { result ≡ row_of k }
 {
@@ -359,7 +361,7 @@ pub fn row_of(k: usize) -> Row
 pub const PAIRS: usize = 2;
 
 // The first is at most the second. Both are places.
-#[derive(Drop)]
+#[derive(Clone, Copy)]
 pub struct Pair {
     pub low: usize,
     pub high: usize,
@@ -371,6 +373,7 @@ fn pair_row(low: usize, high: usize) -> Pair
     Pair { low, high }
 }
 
+#[tactic(auto, using(ground::proofs::Table::arm, ground::proofs::Table::last_arm), unfolding(crate::specs::Settings::pair_of, crate::specs::Settings::pairs))]
 pub fn pair_of(i: usize) -> Pair
     ensures { result ≡ pair_of i }
 {

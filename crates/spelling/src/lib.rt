@@ -1,7 +1,10 @@
 // Texts and digits put into bytes that the caller lends, and read from them. How many digits a number gets is the length of what is lent.
+#![tactic(auto)]
+
 ghost use Rattle.std.specs.Prelude.{◌≡◌, ◌<◌, min, length};
 ghost use Rattle.spelling.specs.Spelling.{same_b, glyph, digits, spellable, digits_over, digit_of, text_over};
 
+#[tactic(auto, using(crate::proofs::Alike::other_length, crate::proofs::Alike::passes_both, crate::proofs::Alike::stops_both, crate::proofs::Alike::both_end))]
 pub fn same(a: &[u8], b: &[u8]) -> bool
     ensures { result ≡ same_b a.now b.now }
 {
@@ -23,6 +26,7 @@ pub fn same(a: &[u8], b: &[u8]) -> bool
 // Added to a digit from 10 to 15 it gives the letter.
 const LETTERS: u8 = b'a' - 10;
 
+#[tactic(auto, unfolding(crate::specs::Spelling::glyph))]
 fn glyph_of(d: u64) -> u8
     requires { d < 16 }
     ensures { result ≡ glyph d }
@@ -34,6 +38,7 @@ fn glyph_of(d: u64) -> u8
     }
 }
 
+#[tactic(auto, unfolding(crate::specs::Spelling::spellable))]
 fn has_glyphs(base: u64) -> bool
     ensures { result ≡ spellable base }
 {
@@ -43,6 +48,7 @@ fn has_glyphs(base: u64) -> bool
 }
 
 // Puts the last digits of a number over all of the part, beginning with the last.
+#[tactic(auto, using(crate::proofs::Spelled::digit_more, crate::proofs::Spelled::digits_done))]
 fn spell(part: &mut [u8], base: u64, n: u64)
     requires { (1 < base) × (base < 17) }
     ensures { part.new ≡ digits base (length part.old) n }
@@ -57,6 +63,7 @@ fn spell(part: &mut [u8], base: u64, n: u64)
 }
 
 // A number over all of the part, in as many digits as it has bytes. A base without glyphs leaves the part as it is.
+#[tactic(auto, using(crate::proofs::Spelled::bounds, crate::proofs::Spelled::in_base, crate::proofs::Spelled::not_in_base))]
 pub fn digits_into(part: &mut [u8], base: u64, n: u64)
     ensures { part.new ≡ digits_over part.old base n }
 {
@@ -75,6 +82,7 @@ const PAST_NINE: u8 = b'9' + 1;
 const PAST_F: u8 = b'f' + 1;
 
 // `0` to `9`, and `a` to `f` for 10 to 15.
+#[tactic(auto, unfolding(crate::specs::Spelling::digit_of))]
 pub fn digit_of(b: u8) -> u64
     ensures { result ≡ digit_of b }
 {
@@ -102,6 +110,7 @@ fn shorter(a: usize, b: usize) -> usize
 }
 
 // Puts a text over the front of the part, as far as both go.
+#[tactic(auto, using(crate::proofs::Spelled::copied_more, crate::proofs::Spelled::rest_stays, crate::proofs::Spelled::copied))]
 pub fn text_into(part: &mut [u8], text: &[u8])
     ensures { part.new ≡ text_over part.old text.now }
 {

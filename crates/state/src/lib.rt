@@ -1,4 +1,6 @@
 // The corrector's state: one struct, handed in by value and handed back. What no session holds is the core; each door has its session beside it.
+#![tactic(auto)]
+
 pub mod faults;
 
 ghost use Rattle.std.specs.Prelude.{◌≡◌, not, ◌||◌, get_or, set};
@@ -8,7 +10,7 @@ ghost use Rattle.settings.specs.Settings.{setting_count, fits_b};
 
 // Main, disturbed and total at measurement conditions (Vm, VmD, VmT), and the same three at base conditions (Vb, VbD, VbT). The totals are kept because
 // the display board asks for them every second.
-#[derive(Drop)]
+#[derive(Clone, Copy)]
 pub struct Counters {
     pub vm: units::Litres,
     pub vmd: units::Litres,
@@ -19,7 +21,7 @@ pub struct Counters {
 }
 
 // One flag for each alarm: pressure, temperature, K.
-#[derive(Drop)]
+#[derive(Clone, Copy)]
 pub struct Alarms {
     pub p: bool,
     pub t: bool,
@@ -27,7 +29,7 @@ pub struct Alarms {
 }
 
 // Which of the three locks stand open, and the codes of locks 2 and 3.
-#[derive(Drop)]
+#[derive(Clone, Copy)]
 pub struct Locks {
     pub cal: bool,
     pub sup: bool,
@@ -38,7 +40,7 @@ pub struct Locks {
 
 // What a session knows of one setting: the value staged, if there is one; whether it was read; whether it was put in force through the other door
 // after that. The flags stand together, so that a cell takes 24 bytes and not 32: the state is copied at every command.
-#[derive(Drop)]
+#[derive(Clone, Copy)]
 pub struct Cell {
     pub value: settings::Value,
     pub staged: bool,
@@ -46,14 +48,14 @@ pub struct Cell {
     pub overtaken: bool,
 }
 
-#[derive(Drop)]
+#[derive(Clone, Copy)]
 pub struct Session {
     pub live: bool,
     pub cells: [Cell; settings::COUNT],
 }
 
 // What a cycle measures. No other command changes it.
-#[derive(Drop)]
+#[derive(Clone, Copy)]
 pub struct Measured {
     pub time: u64,
     pub month: u64,
@@ -62,7 +64,7 @@ pub struct Measured {
 }
 
 // What is kept of the three stores.
-#[derive(Drop)]
+#[derive(Clone, Copy)]
 pub struct Stores {
     pub archive: ring::Ring,
     pub log: ring::Book,
@@ -70,7 +72,7 @@ pub struct Stores {
 }
 
 // All that is no session.
-#[derive(Drop)]
+#[derive(Clone, Copy)]
 pub struct Core {
     pub measured: Measured,
     pub latches: Alarms,
@@ -81,7 +83,7 @@ pub struct Core {
 }
 
 // Door 1 is the keypad, door 2 the optical port.
-#[derive(Drop)]
+#[derive(Clone, Copy)]
 pub struct State {
     pub core: Core,
     pub keypad: Session,
@@ -89,7 +91,7 @@ pub struct State {
 }
 
 // What one moment shows: time, counters with their totals, alarms, latches and locks.
-#[derive(Drop)]
+#[derive(Clone, Copy)]
 pub struct Moment {
     pub time: u64,
     pub counters: Counters,
@@ -129,6 +131,7 @@ pub fn cell_put(a: [Cell; settings::COUNT], k: usize, x: Cell) -> [Cell; setting
     }
 }
 
+#[tactic(auto, unfolding(crate::specs::State::no_session))]
 pub fn no_session() -> Session
     ensures { result ≡ no_session }
 {
@@ -144,6 +147,7 @@ pub fn no_session() -> Session
     }
 }
 
+#[tactic(auto, unfolding(crate::specs::State::nothing_counted))]
 fn no_counts() -> Counters
     ensures { result ≡ nothing_counted }
 {
@@ -157,6 +161,7 @@ fn no_counts() -> Counters
     }
 }
 
+#[tactic(auto, unfolding(crate::specs::State::no_alarm))]
 fn no_alarms() -> Alarms
     ensures { result ≡ no_alarm }
 {
@@ -167,6 +172,7 @@ fn no_alarms() -> Alarms
     }
 }
 
+#[tactic(auto, unfolding(crate::specs::State::shut_locks))]
 fn shut_locks(supcode: u32, custcode: u32) -> Locks
     ensures { result ≡ shut_locks supcode custcode }
 {
@@ -179,6 +185,7 @@ fn shut_locks(supcode: u32, custcode: u32) -> Locks
     }
 }
 
+#[tactic(auto, unfolding(crate::specs::State::fresh_core, ring::specs::Ring::ring_after, ring::specs::Ring::book_after))]
 fn fresh_core(time: u64, locks: Locks) -> Core
     ensures { result ≡ fresh_core time locks }
 {
@@ -213,6 +220,7 @@ fn fresh_core(time: u64, locks: Locks) -> Core
     }
 }
 
+#[tactic(auto, unfolding(crate::specs::State::fresh))]
 pub fn fresh_state(time: u64, supcode: u32, custcode: u32) -> State
     ensures { result ≡ fresh time supcode custcode }
 {
@@ -234,6 +242,7 @@ fn implies(a: bool, b: bool) -> bool
     if a { b } else { true }
 }
 
+#[tactic(auto, unfolding(crate::specs::State::counters_b))]
 fn counters_ok(c: Counters) -> bool
     ensures { result ≡ counters_b c }
 {
@@ -247,6 +256,7 @@ fn counters_ok(c: Counters) -> bool
 }
 
 // The totals are kept, so they may be wrong.
+#[tactic(auto, unfolding(crate::specs::State::totals_b))]
 fn totals_ok(c: Counters) -> bool
     ensures { result ≡ totals_b c }
 {
@@ -257,6 +267,7 @@ fn totals_ok(c: Counters) -> bool
     ground::both(a, b)
 }
 
+#[tactic(auto, unfolding(crate::specs::State::latched_b))]
 fn latched_ok(present: Alarms, latch: Alarms) -> bool
     ensures { result ≡ latched_b present latch }
 {
@@ -267,6 +278,7 @@ fn latched_ok(present: Alarms, latch: Alarms) -> bool
     ground::both(d, c)
 }
 
+#[tactic(auto, unfolding(crate::specs::State::stores_b))]
 fn stores_ok(x: Stores) -> bool
     ensures { result ≡ stores_b x }
 {
@@ -288,6 +300,7 @@ fn staged_ok(staged: bool, k: usize, v: settings::Value) -> bool
     }
 }
 
+#[tactic(auto, unfolding(crate::specs::State::cell_b))]
 fn touched_ok(live: bool, k: usize, c: Cell) -> bool
     ensures { result ≡ cell_b live k c }
 {
@@ -301,6 +314,7 @@ fn touched_ok(live: bool, k: usize, c: Cell) -> bool
 }
 
 // 58 cells are tested each time, and in most nothing is staged or read: for these only the last mark is looked at.
+#[tactic(auto, unfolding(crate::specs::State::cell_b))]
 fn cell_ok(live: bool, k: usize, c: Cell) -> bool
     ensures { result ≡ cell_b live k c }
 {
@@ -312,6 +326,7 @@ fn cell_ok(live: bool, k: usize, c: Cell) -> bool
     }
 }
 
+#[tactic(auto, unfolding(ground::specs::Below::all_below, crate::specs::State::cells_b))]
 fn cells_ok(live: bool, cells: [Cell; settings::COUNT]) -> bool
     ensures { result ≡ all_below (cells_b live cells) setting_count }
 {
@@ -325,6 +340,7 @@ fn cells_ok(live: bool, cells: [Cell; settings::COUNT]) -> bool
     good
 }
 
+#[tactic(auto, unfolding(crate::specs::State::session_b))]
 fn session_ok(x: Session) -> bool
     ensures { result ≡ session_b x }
 {
@@ -332,6 +348,7 @@ fn session_ok(x: Session) -> bool
     cells_ok(x.live, cells)
 }
 
+#[tactic(auto, unfolding(crate::specs::State::measured_b))]
 fn measured_ok(m: Measured) -> bool
     ensures { result ≡ measured_b m }
 {
@@ -344,6 +361,7 @@ fn measured_ok(m: Measured) -> bool
     ground::both(b, month)
 }
 
+#[tactic(auto, unfolding(crate::specs::State::core_b))]
 fn core_ok(c: Core) -> bool
     ensures { result ≡ core_b c }
 {
@@ -362,6 +380,7 @@ fn core_ok(c: Core) -> bool
     ground::both(g, stores)
 }
 
+#[tactic(auto, unfolding(crate::specs::State::whole_b))]
 pub fn whole(s: State) -> bool
     ensures { result ≡ whole_b s }
 {
@@ -377,6 +396,7 @@ pub fn whole(s: State) -> bool
 
 // ---- another core
 
+#[tactic(auto, unfolding(crate::specs::State::with_core))]
 pub fn with_core(s: State, core: Core) -> State
     ensures { result ≡ with_core s core }
 {

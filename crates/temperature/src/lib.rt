@@ -1,4 +1,6 @@
 // T.Mes: the raw temperature put through the temperature equation, then rounded to the nearest hundredth of a degree.
+#![tactic(auto)]
+
 ghost use Rattle.std.specs.Prelude.{◌≡◌};
 ghost use Rattle.temperature.specs.Equation.{equation_of};
 ghost use Rattle.temperature.specs.Nearest.{nearest_of};
@@ -11,7 +13,7 @@ const COLDEST: f64 = ranges::COLDEST as f64;
 const HOTTEST: f64 = ranges::HOTTEST as f64;
 
 // Eq1.T, Eq2.T and Eq3.T, which travel together as one set.
-#[derive(Drop)]
+#[derive(Clone, Copy)]
 pub struct Coefficients {
     pub eq1: f64,
     pub eq2: f64,
@@ -19,13 +21,14 @@ pub struct Coefficients {
 }
 
 // T.Mes in 0.01 °C, or that the measurement failed.
-#[derive(Drop)]
+#[derive(Clone, Copy)]
 pub enum Measured {
     Failed,
     Hundredths(i64),
 }
 
 // Six operations, each rounding once. The order is part of the promise: another order can give another float. A raw value is exact as a float.
+#[tactic(auto, unfolding(crate::specs::Equation::equation_of))]
 pub fn equation(c: Coefficients, raw: u16) -> f64
     ensures { result ≡ equation_of c raw }
 {
@@ -40,6 +43,7 @@ pub fn equation(c: Coefficients, raw: u16) -> f64
 
 // x + 0.5 could itself be rounded, so it is not used. x + x is exact. The answer is half of its whole part t, rounded away from zero: t / 2 rounds toward zero, and
 // the remainder t % 2, which is -1, 0 or 1, makes up for it.
+#[tactic(auto, using(crate::proofs::Half::half_away, crate::proofs::Half::half_fits, crate::proofs::Half::sum_is, crate::proofs::Half::sum_fits, crate::proofs::Range::within, crate::proofs::Range::too_low, crate::proofs::Range::too_high, crate::proofs::Twice::Doubled, crate::proofs::Twice::doubled_of))]
 pub fn nearest_hundredth(x: f64) -> Measured
     ensures { result ≡ nearest_of x }
 {

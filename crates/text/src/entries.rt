@@ -14,6 +14,7 @@ use commands::{Act, Brought, Command, Entry, LockTurn, Question};
 use spelling::same;
 
 // An empty line, or one that begins with `#`, gets no answer.
+#[tactic(auto, unfolding(crate::specs::Entries::is_quiet))]
 fn is_quiet(line: &[u8]) -> bool
     ensures { result ≡ is_quiet line.now }
 {
@@ -25,6 +26,7 @@ fn is_quiet(line: &[u8]) -> bool
 
 // ---- a word alone, and a word with one, two or three numbers: a row for each. `parse` has hexadecimal digits in the place of a number
 
+#[tactic(auto, unfolding(crate::specs::Entries::alone))]
 fn alone(w: &[u8]) -> Entry
     ensures { result ≡ alone w.now }
 {
@@ -41,6 +43,7 @@ fn alone(w: &[u8]) -> Entry
 }
 
 // The bench has no longer buffer to lend.
+#[tactic(auto, unfolding(crate::specs::Entries::readout_asked))]
 fn readout_asked(n: u64) -> Entry
     ensures { result ≡ readout_asked n }
 {
@@ -51,6 +54,7 @@ fn readout_asked(n: u64) -> Entry
     Entry::Put(Command::Ask(Question::Readout(n)))
 }
 
+#[tactic(auto, unfolding(crate::specs::Entries::question_with))]
 fn question_with(w: &[u8], n: u64) -> Entry
     ensures { result ≡ question_with w.now n }
 {
@@ -72,6 +76,7 @@ fn question_with(w: &[u8], n: u64) -> Entry
     Entry::Unknown
 }
 
+#[tactic(auto, unfolding(crate::specs::Entries::with_one))]
 fn with_one(w: &[u8], n: u64) -> Entry
     ensures { result ≡ with_one w.now n }
 {
@@ -93,6 +98,7 @@ fn with_one(w: &[u8], n: u64) -> Entry
     question_with(w, n)
 }
 
+#[tactic(auto, unfolding(crate::specs::Entries::one_or))]
 fn one_or(w: &[u8], number: Number) -> Entry
     ensures { result ≡ one_or w.now number }
 {
@@ -102,6 +108,7 @@ fn one_or(w: &[u8], number: Number) -> Entry
     with_one(w, n)
 }
 
+#[tactic(auto, unfolding(crate::specs::Entries::word_or))]
 fn word_or(w: &[u8], number: Number, x: &[u8]) -> Entry
     ensures { result ≡ word_or w.now number x.now }
 {
@@ -111,6 +118,7 @@ fn word_or(w: &[u8], number: Number, x: &[u8]) -> Entry
     one_or(w, number)
 }
 
+#[tactic(auto, unfolding(crate::specs::Entries::open_by))]
 fn open_by(lock: u64, code: Code) -> Entry
     ensures { result ≡ open_by lock code }
 {
@@ -120,6 +128,7 @@ fn open_by(lock: u64, code: Code) -> Entry
     Entry::Put(Command::Turn(LockTurn::Open(lock, c)))
 }
 
+#[tactic(auto, unfolding(crate::specs::Entries::with_two))]
 fn with_two(w: &[u8], a: u64, b: u64) -> Entry
     ensures { result ≡ with_two w.now a b }
 {
@@ -132,6 +141,7 @@ fn with_two(w: &[u8], a: u64, b: u64) -> Entry
     Entry::Unknown
 }
 
+#[tactic(auto, unfolding(crate::specs::Entries::two_or))]
 fn two_or(w: &[u8], first: Number, second: Number) -> Entry
     ensures { result ≡ two_or w.now first second }
 {
@@ -144,6 +154,7 @@ fn two_or(w: &[u8], first: Number, second: Number) -> Entry
     with_two(w, a, b)
 }
 
+#[tactic(auto, unfolding(crate::specs::Entries::start_by))]
 fn start_by(time: u64, two: Code, three: Code) -> Entry
     ensures { result ≡ start_by time two three }
 {
@@ -160,6 +171,7 @@ fn start_by(time: u64, two: Code, three: Code) -> Entry
     }
 }
 
+#[tactic(auto, unfolding(crate::specs::Entries::with_three))]
 fn with_three(w: &[u8], a: u64, b: u64, c: u64) -> Entry
     ensures { result ≡ with_three w.now a b c }
 {
@@ -169,6 +181,7 @@ fn with_three(w: &[u8], a: u64, b: u64, c: u64) -> Entry
     Entry::Unknown
 }
 
+#[tactic(auto, unfolding(crate::specs::Entries::three_or))]
 fn three_or(w: &[u8], first: Number, second: Number, third: Number) -> Entry
     ensures { result ≡ three_or w.now first second third }
 {
@@ -186,6 +199,7 @@ fn three_or(w: &[u8], first: Number, second: Number, third: Number) -> Entry
 
 // ---- two numbers and a value; two numbers and three readings
 
+#[tactic(auto, unfolding(crate::specs::Entries::with_value))]
 fn with_value(w: &[u8], a: u64, b: u64, v: settings::Value) -> Entry
     ensures { result ≡ with_value w.now a b v }
 {
@@ -195,6 +209,7 @@ fn with_value(w: &[u8], a: u64, b: u64, v: settings::Value) -> Entry
     Entry::Unknown
 }
 
+#[tactic(auto, unfolding(crate::specs::Entries::value_or))]
 fn value_or(w: &[u8], first: Number, second: Number, wanted: Wanted) -> Entry
     ensures { result ≡ value_or w.now first second wanted }
 {
@@ -210,6 +225,7 @@ fn value_or(w: &[u8], first: Number, second: Number, wanted: Wanted) -> Entry
     with_value(w, a, b, v)
 }
 
+#[tactic(auto, unfolding(crate::specs::Entries::with_readings))]
 fn with_readings(w: &[u8], brought: Brought) -> Entry
     ensures { result ≡ with_readings w.now brought }
 {
@@ -219,6 +235,7 @@ fn with_readings(w: &[u8], brought: Brought) -> Entry
     Entry::Unknown
 }
 
+#[tactic(auto, unfolding(crate::specs::Entries::readings_or))]
 fn readings_or(
     w: &[u8],
     time: Number,
@@ -256,18 +273,21 @@ fn readings_or(
 
 // ---- the line
 
+#[tactic(auto, unfolding(crate::specs::Numbers::number_in))]
 fn number_at(line: &[u8], at: usize, next: usize) -> Number
     ensures { result ≡ number_in 10 (word_between line.now at next) }
 {
     crate::numbers::number_of(word_between(line, at, next))
 }
 
+#[tactic(auto, unfolding(crate::specs::Numbers::reading_of))]
 fn reading_at(line: &[u8], at: usize, next: usize) -> Reading
     ensures { result ≡ reading_of (word_between line.now at next) }
 {
     crate::numbers::reading_of(word_between(line, at, next))
 }
 
+#[tactic(auto, unfolding(crate::specs::Entries::entry_in, crate::specs::Words::word, crate::specs::Words::no_word, crate::specs::Words::place))]
 fn entry_in(line: &[u8]) -> Entry
     ensures { result ≡ entry_in line.now }
 {
@@ -313,6 +333,7 @@ fn entry_in(line: &[u8]) -> Entry
     Entry::Unknown
 }
 
+#[tactic(auto, unfolding(crate::specs::Entries::entry_of))]
 pub fn entry_of(line: &[u8]) -> Entry
     ensures { result ≡ entry_of line.now }
 {

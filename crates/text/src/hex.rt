@@ -17,6 +17,7 @@ const BASE: u64 = 16;
 // Room for the bytes of the longest word.
 const MOST: usize = LONGEST / 2;
 
+#[tactic(auto, using(crate::proofs::Digits::no_digit_at, crate::proofs::Digits::digit_at_lem, crate::proofs::Digits::not_all), unfolding(ground::specs::Below::all_below))]
 fn all_digits(w: &[u8]) -> bool
     ensures { result ≡ all_below (digit_at 16 w.now) (length w.now) }
 {
@@ -32,6 +33,7 @@ fn all_digits(w: &[u8]) -> bool
 }
 
 // At least two digits, and an even number of them.
+#[tactic(auto, unfolding(crate::specs::Hex::is_hexed))]
 fn is_hexed(w: &[u8]) -> bool
     ensures { result ≡ is_hexed w.now }
 {
@@ -49,6 +51,7 @@ fn byte_of(a: u8, b: u8) -> u8
 }
 
 // Puts the bytes at the front.
+#[tactic(auto, using(spelling::proofs::Spelled::rest_stays, crate::proofs::Unhexed::each_digit, crate::proofs::Unhexed::none_put, crate::proofs::Unhexed::byte_put, crate::proofs::Unhexed::all_put))]
 fn unhex(w: &[u8], out: &mut [u8])
     requires { (all_below (digit_at 16 w.now) (length w.now) ≡ true) × (length w.now / 2 ≤ length out.old) }
     ensures { out.new ≡ unhexed w.now ++ drop (length w.now / 2) out.old }
@@ -68,6 +71,7 @@ fn blank() -> [u8; MOST]
 }
 
 // What the reader says of these bytes. No line has more than there is room for; so many would be no message.
+#[tactic(auto, using(crate::proofs::Unhexed::too_many, crate::proofs::Unhexed::at_front))]
 fn parse(w: &[u8]) -> Parsed
     requires { all_below (digit_at 16 w.now) (length w.now) ≡ true }
     ensures { result ≡ parsed (unhexed w.now) }
@@ -81,6 +85,7 @@ fn parse(w: &[u8]) -> Parsed
     reader::parse(&buffer[0..n])
 }
 
+#[tactic(auto, using(crate::proofs::Unhexed::hexed_digits), unfolding(crate::specs::Hex::parse_asked))]
 pub fn parse_asked(w: &[u8]) -> Entry
     ensures { result ≡ parse_asked w.now }
 {

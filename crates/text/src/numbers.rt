@@ -4,46 +4,46 @@ ghost use Rattle.std.specs.Float.Ieee.{of_bits};
 ghost use Rattle.std.specs.Float.{binary64};
 ghost use Rattle.text.specs.Numbers.{number_in, hex_of, code_of, reading_of, raw_by, pressure_by, computed_by, whole_of, whole_by, below_zero, coefficient_by, value_in};
 
-#[derive(Drop)]
+#[derive(Clone, Copy)]
 pub enum Number {
     NotOne,
     Is(u64),
 }
 
-#[derive(Drop)]
+#[derive(Clone, Copy)]
 pub enum Code {
     NotOne,
     Is(u32),
 }
 
 // A reading. The word `-` stands for a missing one.
-#[derive(Drop)]
+#[derive(Clone, Copy)]
 pub enum Reading {
     NotOne,
     Missing,
     Is(u64),
 }
 
-#[derive(Drop)]
+#[derive(Clone, Copy)]
 pub enum RawReading {
     NotOne,
     Is(readings::RawTemperature),
 }
 
-#[derive(Drop)]
+#[derive(Clone, Copy)]
 pub enum PressureReading {
     NotOne,
     Is(readings::Pressure),
 }
 
-#[derive(Drop)]
+#[derive(Clone, Copy)]
 pub enum ComputedReading {
     NotOne,
     Is(readings::Compressibility),
 }
 
 // The value that a write wants a setting to have.
-#[derive(Drop)]
+#[derive(Clone, Copy)]
 pub enum Wanted {
     NotOne,
     Is(settings::Value),
@@ -55,6 +55,7 @@ const INFINITE: u64 = 0x7ff0_0000_0000_0000;
 // The weight of an f64's sign bit.
 const SIGN: u64 = 0x8000_0000_0000_0000;
 
+#[tactic(auto, using(spelling::proofs::Spells::one_more, crate::proofs::Digits::empty, crate::proofs::Digits::fits, crate::proofs::Digits::over, crate::proofs::Digits::no_digit, crate::proofs::Digits::no_digit_at, crate::proofs::Digits::digit_at_lem, crate::proofs::Digits::too_much, crate::proofs::Digits::is_number_lem), unfolding(ground::specs::Below::all_below, spelling::specs::Spelling::spelled))]
 fn number_in(base: u64, w: &[u8]) -> Number
     requires { (0 < base) × (base ≤ 16) }
     ensures { result ≡ number_in base w.now }
@@ -86,6 +87,7 @@ pub fn number_of(w: &[u8]) -> Number
     number_in(10, w)
 }
 
+#[tactic(auto, unfolding(crate::specs::Numbers::hex_of))]
 fn hex_of(w: &[u8]) -> Number
     ensures { result ≡ hex_of w.now }
 {
@@ -95,6 +97,7 @@ fn hex_of(w: &[u8]) -> Number
     Number::NotOne
 }
 
+#[tactic(auto, unfolding(crate::specs::Numbers::code_of))]
 pub fn code_of(n: u64) -> Code
     ensures { result ≡ code_of n }
 {
@@ -104,6 +107,7 @@ pub fn code_of(n: u64) -> Code
     Code::NotOne
 }
 
+#[tactic(auto, unfolding(crate::specs::Numbers::reading_of))]
 pub fn reading_of(w: &[u8]) -> Reading
     ensures { result ≡ reading_of w.now }
 {
@@ -155,6 +159,7 @@ pub fn computed_of(r: Reading) -> ComputedReading
 }
 
 // -n, worked out as -1 - (n - 1), because the lowest number has no counterpart above zero.
+#[tactic(auto, using(crate::proofs::Below::below_fits, crate::proofs::Below::below_is))]
 fn below_zero(n: u64) -> i64
     requires { n ≤ 9223372036854775808 }
     ensures { result ≡ below_zero n }
@@ -186,6 +191,7 @@ fn whole_by(negative: bool, n: Number) -> Wanted
 }
 
 // A whole number. One below zero has `-` before its digits.
+#[tactic(auto, using(crate::proofs::Bytes::the_rest, crate::proofs::Digits::no_bytes), unfolding(crate::specs::Numbers::whole_of))]
 fn whole_of(w: &[u8]) -> Wanted
     ensures { result ≡ whole_of w.now }
 {
@@ -199,6 +205,7 @@ fn whole_of(w: &[u8]) -> Wanted
 }
 
 // All NaNs are one value here, so a NaN's bits are not taken as they are.
+#[tactic(auto, using(crate::proofs::Floats::nan_made, crate::proofs::Floats::no_nan))]
 fn float_of(bits: u64) -> f64
     ensures { result ≡ of_bits binary64 bits }
 {
@@ -218,6 +225,7 @@ fn coefficient_by(n: Number) -> Wanted
 }
 
 // The words `w VALUE` or `c HEX`.
+#[tactic(auto, unfolding(crate::specs::Numbers::value_in))]
 pub fn value_in(kind: &[u8], w: &[u8]) -> Wanted
     ensures { result ≡ value_in kind.now w.now }
 {

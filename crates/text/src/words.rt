@@ -9,6 +9,7 @@ pub const LINE_FEED: u8 = b'\n';
 pub const LONGEST: usize = 500;
 
 // How many bytes come before the first b; all of them if there is no b.
+#[tactic(auto, using(crate::proofs::Bytes::stops, crate::proofs::Bytes::passes, crate::proofs::Bytes::at_end))]
 pub fn first_of(s: &[u8], b: u8) -> usize
     ensures { result ≡ first_of b s.now }
 {
@@ -23,6 +24,7 @@ pub fn first_of(s: &[u8], b: u8) -> usize
 }
 
 // Where the word after the one at this place begins. Past the end of the line the place stays as it is.
+#[tactic(auto, using(crate::proofs::Bytes::within, crate::proofs::Bytes::the_rest), unfolding(crate::specs::Words::after_word))]
 pub fn after_word(line: &[u8], at: usize) -> usize
     ensures { result ≡ after_word line.now at }
 {
@@ -34,6 +36,7 @@ pub fn after_word(line: &[u8], at: usize) -> usize
 }
 
 // The word at one place. It ends one byte before the place of the next word.
+#[tactic(auto, unfolding(crate::specs::Words::word_between))]
 pub fn word_between(line: &[u8], at: usize, next: usize) -> &[u8]
     ensures { result.now ≡ word_between line.now at next }
 {
@@ -53,6 +56,7 @@ pub fn word_between(line: &[u8], at: usize, next: usize) -> &[u8]
 // How much of an unfinished line is kept: one byte more than a command may have, so that a line that is too long stays too long.
 const KEPT: usize = LONGEST + 1;
 
+#[tactic(auto, unfolding(crate::specs::Words::kept_of))]
 fn kept_of(n: usize) -> usize
     ensures { result ≡ kept_of n }
 {
@@ -60,6 +64,7 @@ fn kept_of(n: usize) -> usize
 }
 
 // Moves the bytes from `from` up to `to` to the front, but at most KEPT of them, and answers how many.
+#[tactic(auto, using(crate::proofs::Bytes::too_short, crate::proofs::Bytes::none_left, crate::proofs::Bytes::kept_few, crate::proofs::Bytes::moved_on, crate::proofs::Bytes::rest_stays, crate::proofs::Bytes::all_moved))]
 pub fn keep(input: &mut [u8], from: usize, to: usize) -> usize
     ensures { Kept input.old input.new from to result }
 {

@@ -13,7 +13,7 @@ pub const LOG: usize = ring::LOG_LINES as usize + 1;
 
 pub const AUDIT: usize = ring::AUDIT_LINES as usize + 1;
 
-#[derive(Drop)]
+#[derive(Clone, Copy)]
 pub struct Lent {
     pub answer: Answer,
     pub archive: [ArchiveLine; ARCHIVE],
@@ -21,6 +21,7 @@ pub struct Lent {
     pub audit: [AuditLine; AUDIT],
 }
 
+#[tactic(auto, unfolding(crate::specs::Lend::the_lent))]
 fn the_lent(
     answer: Answer,
     archive: [ArchiveLine; ARCHIVE],
@@ -44,6 +45,7 @@ fn at_most(n: usize, most: usize) -> usize
 }
 
 // If a number is larger than its array, the whole array is lent.
+#[tactic(auto, using(crate::proofs::Front::rest_row, crate::proofs::Front::front_length, crate::proofs::Front::lends_front, crate::proofs::Front::shares_front, crate::proofs::Front::front_joins), unfolding(crate::specs::Lend::lent_by))]
 pub fn put(
     s: State,
     c: Command,

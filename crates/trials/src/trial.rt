@@ -10,7 +10,7 @@ use state::State;
 use text::words::LINE_FEED;
 
 // How many lines of each store are lent.
-#[derive(Drop)]
+#[derive(Clone, Copy)]
 pub struct Lines {
     pub months: usize,
     pub events: usize,

@@ -1,5 +1,7 @@
 // Asks the rules some hundreds of questions and prints each with its answer. The file stdout beside it is what
 // tools/vectors.py works out by other means.
+#![tactic(auto)]
+
 mod amounts;
 mod factors;
 mod measures;

@@ -7,14 +7,14 @@ use settings::{Setting, Value};
 use units::{BaseUnits, Litres};
 
 // An output with its choice and its weight.
-#[derive(Drop)]
+#[derive(Clone, Copy)]
 struct Case {
     choice: i64,
     weight: i64,
     output: Output,
 }
 
-#[derive(Drop)]
+#[derive(Clone, Copy)]
 struct Four {
     one: Case,
     two: Case,
