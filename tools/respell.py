@@ -77,11 +77,16 @@ def turned(text, names, tokens):
     return tokens.sub(lambda m: names[m[0]], text)
 
 
+def spelled(names):
+    return re.compile(r"(?<![\w'◌·-])(?:" + "|".join(map(re.escape, names)) + r")(?![\w'◌-])")
+
+
 def main(argv):
     top = os.path.abspath(argv[0] if argv else ".")
     names = table(declared(os.path.join(top, "crates")))
     some = sorted(names, key=len, reverse=True)
-    tokens = re.compile(r"(?<![\w'◌·-])(?:" + "|".join(map(re.escape, some)) + r")(?![\w'◌-])")
+    tokens = spelled(some)
+    old_forms = spelled([n for n in some if n != n.lower() or "-" in n])  # a name that is in snake case already may be a function of src/
     quoted = re.compile(r"`[^`\n]*`")
     changed = 0
     for path in walk(top, (".antt", ".rt", ".edit", ".md")):
@@ -92,9 +97,9 @@ def main(argv):
         for line in before.split("\n"):
             comment = "--" if path.endswith(".antt") else "//"
             if path.endswith(".md") or line.lstrip().startswith(comment):
-                line = quoted.sub(lambda m: turned(m[0], names, tokens), line)
+                line = quoted.sub(lambda m: turned(m[0], names, old_forms), line)
             else:
-                line = turned(line, names, tokens)
+                line = turned(line, names, tokens if path.endswith(".antt") else old_forms)
             lines.append(line)
         after = "\n".join(lines)
         if after != before:

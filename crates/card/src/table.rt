@@ -115,7 +115,7 @@ fn gives(right: bool) {
 }
 
 // Which of the three locks give the right that a lock stands for.
-fn given_by_lem(lock: u8) {
+fn given_by(lock: u8) {
     let r = lock_of(lock);
     gives(r.cal);
     gives(r.sup);
@@ -126,7 +126,7 @@ fn given_by_lem(lock: u8) {
 fn right(n: u8) {
     row_begins();
     lock(n);
-    given_by_lem(n);
+    given_by(n);
 }
 
 fn every_right() {
@@ -138,7 +138,7 @@ fn every_right() {
 fn clear() {
     row_begins();
     text(b"Clear");
-    given_by_lem(CLEAR);
+    given_by(CLEAR);
 }
 
 fn rights() {

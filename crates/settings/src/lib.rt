@@ -208,7 +208,8 @@ pub fn settings_fit(a: [Setting; COUNT]) -> bool
     good
 }
 
-fn in_order_lem(a: [Setting; COUNT], p: Pair) -> bool
+#[tactic(auto, using(ground::proofs::Signed::lt_back), unfolding(crate::specs::Settings::in_order, crate::specs::Settings::pair_in_order))]
+fn in_order(a: [Setting; COUNT], p: Pair) -> bool
     ensures { result ≡ pair_in_order a p }
 {
     let x = setting_at(a, p.low);
@@ -229,7 +230,7 @@ pub fn pairs_ordered(a: [Setting; COUNT]) -> bool
     let mut good = true;
     for i in 0..table::PAIRS {
         let p = pair_of(i);
-        let fine = in_order_lem(a, p);
+        let fine = in_order(a, p);
         good = both(fine, good);
     }
     good
