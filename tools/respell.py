@@ -77,6 +77,12 @@ def turned(text, names, tokens):
     return tokens.sub(lambda m: names[m[0]], text)
 
 
+def outside(line, names, tokens):
+    """A line of code, with its strings as they are."""
+    parts = re.split(r'("(?:[^"\\]|\\.)*")', line)
+    return "".join(p if k % 2 else turned(p, names, tokens) for k, p in enumerate(parts))
+
+
 def spelled(names):
     return re.compile(r"(?<![\w'◌·-])(?:" + "|".join(map(re.escape, names)) + r")(?![\w'◌-])")
 
@@ -99,7 +105,7 @@ def main(argv):
             if path.endswith(".md") or line.lstrip().startswith(comment):
                 line = quoted.sub(lambda m: turned(m[0], names, old_forms), line)
             else:
-                line = turned(line, names, tokens if path.endswith(".antt") else old_forms)
+                line = outside(line, names, tokens if path.endswith(".antt") else old_forms)
             lines.append(line)
         after = "\n".join(lines)
         if after != before:

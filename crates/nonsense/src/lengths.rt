@@ -43,5 +43,5 @@ pub fn run() {
     every_length(b"month 39", change::not_whole(s));
     every_length(b"no lock open", change::shut(s));
     every_length(b"stale", change::stale(s));
-    every_length(b"p_max staged below p_min", change::crossed(s));
+    every_length(b"pMax staged below pMin", change::crossed(s));
 }

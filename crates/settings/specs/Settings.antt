@@ -110,8 +110,8 @@ rows =
     ∷ whole_row 4 "Md.p" "0 p.F, 1 measured" (pos 0) (pos 1) (pos 1) cal
     ∷ whole_row 5 "Md.T" "0 T.F, 1 measured" (pos 0) (pos 1) (pos 1) cal
     ∷ whole_row 6 "Md.K" "0 K.F, 1 computed" (pos 0) (pos 1) (pos 0) cal
-    ∷ whole_row 7 "p_min" "Pa" (pos least_p) (pos most_p) (pos 90000) cal
-    ∷ whole_row 8 "p_max" "Pa" (pos least_p) (pos most_p) (pos 700000) cal
+    ∷ whole_row 7 "pMin" "Pa" (pos least_p) (pos most_p) (pos 90000) cal
+    ∷ whole_row 8 "pMax" "Pa" (pos least_p) (pos most_p) (pos 700000) cal
     ∷ whole_row 9 "TMin" "0.01 °C" coldest hottest (neg_ℤ (pos 2000)) cal
     ∷ whole_row 10 "TMax" "0.01 °C" coldest hottest (pos 6000) cal
     ∷ float_row 11 "Eq1.T" "-" (fin true 5 (pos 3)) cal  -- -40 is -5 * 2 ^ 3

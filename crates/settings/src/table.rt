@@ -105,11 +105,11 @@ const MD_K_NAME: [u8; NAME] = *b"Md.K              ";
 
 pub const P_MIN: usize = 6;
 
-const P_MIN_NAME: [u8; NAME] = *b"p_min              ";
+const P_MIN_NAME: [u8; NAME] = *b"pMin              ";
 
 pub const P_MAX: usize = 7;
 
-const P_MAX_NAME: [u8; NAME] = *b"p_max              ";
+const P_MAX_NAME: [u8; NAME] = *b"pMax              ";
 
 pub const T_MIN: usize = 8;
 

@@ -10,7 +10,7 @@ fn month(time: u64) {
 }
 
 fn holds(month: u64, time: u64) {
-    text(b"month_holds");
+    text(b"month-holds");
     number(month);
     number(time);
     gives();
