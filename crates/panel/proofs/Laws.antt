@@ -2,7 +2,7 @@
 -- present, the totals of a report are main plus disturbed, and a lock turned to where it stands leaves everything as it was.
 -- Assumes nothing.
 use mathlib.Core.Path.{◌≡◌, refl, sym, ap, ◌∙◌}
-use mathlib.Core.Bool.{Bool, true, false, not, cond, ◌&&◌, ◌||◌, true≢false, and-true, and_false}
+use mathlib.Core.Bool.{Bool, true, false, not, cond, ◌&&◌, ◌||◌, true≢false, and-true, and-false}
 use mathlib.Core.List.{List, []}
 use Prim.Native.Nat.{ℕ, zero, suc, ◌≤◌, ◌<◌}
 use native.Mathlib.Nat.{add-zero}
@@ -168,7 +168,7 @@ pub record Dropped (present latch after : Bool) : Type 0 where
 
 drop_of : (present latch : Bool) → Dropped present latch (latch && present)
 drop_of present latch = record {
-  gone = λ (e : present ≡ false). rw e (and_false latch);
+  gone = λ (e : present ≡ false). rw e (and-false latch);
   stays = λ (e : present ≡ true). rw e (and-true latch);
 }
 

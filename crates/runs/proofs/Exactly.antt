@@ -8,7 +8,7 @@ use mathlib.Core.Bool.{Bool, true, false, not, cond, ◌||◌, false≢true}
 use mathlib.Core.Logic.{◌↔◌}
 use mathlib.Core.List.{[], ◌∷◌}
 use lib.Dec.{ltb, eqb}
-use borrow.Author.Tests.{ltb-true, eqb-true, eq-eqb, not_true}
+use borrow.Author.Tests.{ltb-true, eqb-true, eq-eqb, not-true}
 use Rattle.ground.proofs.Flags.{and_left, and_right, or_false_left, or_false_right}
 use Rattle.state.specs.Card.{first_of}
 use Rattle.runs.specs.Exactly.{Rows, applies, earlier, lists_number, orderly_b, Given}
@@ -18,7 +18,7 @@ module _ (x : ℕ × Bool) (xs : Rows) (o : orderly_b (x ∷ xs) ≡ true) where
   above_zero = ltb-true 0 x.0 (and_left (ltb 0 x.0) _ o)
 
   alone : lists_number x.0 xs ≡ false
-  alone = not_true (lists_number x.0 xs) (and_left (not (lists_number x.0 xs)) (orderly_b xs) (and_right (ltb 0 x.0) _ o))
+  alone = not-true (lists_number x.0 xs) (and_left (not (lists_number x.0 xs)) (orderly_b xs) (and_right (ltb 0 x.0) _ o))
 
   others : orderly_b xs ≡ true
   others = and_right (not (lists_number x.0 xs)) (orderly_b xs) (and_right (ltb 0 x.0) _ o)

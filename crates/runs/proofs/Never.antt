@@ -9,7 +9,7 @@ use Prim.Native.Nat.{ℕ, ◌<◌}
 use native.Mathlib.Omega.{arith}
 use lib.Dec.{eqb}
 use lib.ListN.{length}
-use borrow.Author.Tests.{eq-eqb, ne_eqb, not_true}
+use borrow.Author.Tests.{eq-eqb, ne_eqb, not-true}
 use Rattle.ground.proofs.Flags.{and_left, and_right}
 use Rattle.order.specs.Order.{run, trace}
 use Rattle.ring.specs.declared.Ring.{Ring}
@@ -97,7 +97,7 @@ module _ (w : World) (s : Ready w) where
   others x = sym (ap orderly_b (first_row x)) ∙ orderly x w
 
   unlisted : (x : Step) → lists_number 1 (later_rows x w) ≡ false
-  unlisted x = not_true (lists_number 1 (later_rows x w)) (and_left (not (lists_number 1 (later_rows x w))) (orderly_b (later_rows x w)) (others x))
+  unlisted x = not-true (lists_number 1 (later_rows x w)) (and_left (not (lists_number 1 (later_rows x w))) (orderly_b (later_rows x w)) (others x))
 
   orderly_later : (x : Step) → orderly_b (later_rows x w) ≡ true
   orderly_later x = and_right (not (lists_number 1 (later_rows x w))) (orderly_b (later_rows x w)) (others x)

@@ -10,7 +10,7 @@ use lib.Dec.{ltb, leb, eqb, eqb→eq}
 use lib.IntN.{ℤ, pos, negsuc}
 use lib.ListN.{length}
 use lib.Signed.{lt_z}
-use borrow.Author.Tests.{ltb-false, not_true}
+use borrow.Author.Tests.{ltb-false, not-true}
 use Rattle.ground.specs.Below.{all_below}
 use Rattle.ground.specs.Ranges.{most_code, least_k, most_k, least_p, most_p, least_pb, most_pb, least_tb, most_tb, least_weight, most_weight, coldest, hottest}
 use Rattle.ground.proofs.Every.{all_each}
@@ -62,7 +62,7 @@ locked k l = of_T (known_lock k (row_of k)) (at known_lock no_row rows tt k l)
 
 -- at each place that the corrector reads stands the row of that name
 pub places_named : map (λ k. (row_of k).name) (cp ∷ pb ∷ tb ∷ md_p ∷ md_t ∷ md_k ∷ p_min ∷ p_max ∷ t_min ∷ t_max ∷ eq1 ∷ eq2 ∷ eq3 ∷ p_f ∷ t_f ∷ k_f ∷ [])
-    ≡ map (column name_width) ("cp code c" ∷ "pb" ∷ "Tb" ∷ "Md.p" ∷ "Md.T" ∷ "Md.K" ∷ "p_min" ∷ "p_max" ∷ "TMin" ∷ "TMax" ∷ "Eq1.T" ∷ "Eq2.T" ∷ "Eq3.T" ∷ "p.F" ∷ "T.F" ∷ "K.F" ∷ [])
+    ≡ map (column name_width) ("cp code c" ∷ "pb" ∷ "Tb" ∷ "Md.p" ∷ "Md.T" ∷ "Md.K" ∷ "pMin" ∷ "pMax" ∷ "TMin" ∷ "TMax" ∷ "Eq1.T" ∷ "Eq2.T" ∷ "Eq3.T" ∷ "p.F" ∷ "T.F" ∷ "K.F" ∷ [])
 unfolding row_of rows
 places_named = refl
 
@@ -137,8 +137,8 @@ whole_row_lem r (Whole n) k e =
     let w : within_b r.lowest r.highest n ≡ true = and_right (not r.coefficient) (within_b r.lowest r.highest n) e in
     record {
       is = refl;
-      from = not_true (lt_z n r.lowest) (and_left (not (lt_z n r.lowest)) (not (lt_z r.highest n)) w);
-      upto = not_true (lt_z r.highest n) (and_right (not (lt_z n r.lowest)) (not (lt_z r.highest n)) w);
+      from = not-true (lt_z n r.lowest) (and_left (not (lt_z n r.lowest)) (not (lt_z r.highest n)) w);
+      upto = not-true (lt_z r.highest n) (and_right (not (lt_z n r.lowest)) (not (lt_z r.highest n)) w);
     }
 whole_row_lem r (Coefficient f) k e = absurd (true≢false (sym (and_left r.coefficient (is_finite f) e) ∙ k))
 

@@ -1,7 +1,7 @@
 -- A commit changes exactly the staged settings, and marks the other door exactly where it had read one of them.
 -- Assumes nothing.
 use mathlib.Core.Path.{◌≡◌, refl, sym, ap, ◌∙◌}
-use mathlib.Core.Bool.{true, false, and_false, or-false}
+use mathlib.Core.Bool.{true, false, and-false, or-false}
 use mathlib.Core.List.{List, [], ◌∷◌}
 use Prim.Native.Nat.{ℕ, zero, suc, ◌≤◌, ◌<◌}
 use native.Mathlib.Nat.{not-suc-le-zero, le_of_suc-le-suc}
@@ -71,7 +71,7 @@ stand_fits a cells e g = each_all (fits_at (as_stand a cells)) setting_count (λ
 
 blank_marks : (d : Cell) → d ≡ marked_by blank_cell d
 unfolding marked_by
-blank_marks d = rw (and_false, or-false)
+blank_marks d = rw (and-false, or-false)
 
 nothing_read : (c : Cell) → blank_cell ≡ marked_by c blank_cell
 unfolding marked_by
