@@ -39,7 +39,7 @@ fn in_ranges(p: u64, tb: u64, pb: u64, t: u64, k: u64) -> bool
 }
 
 // Nearest to x·1000/d, halves up.
-#[tactic(auto, using(crate::proofs::Division::parts, crate::proofs::Division::long_division, crate::proofs::Division::round_up, crate::proofs::Division::round_down))]
+#[tactic(auto, using(crate::proofs::Division::parts))]
 fn nearest(x: u64, d: u64) -> u64
     requires { (2000 ≤ d) × (d ≤ 9000000000000000) }
     ensures { result ≡ nearest_fraction (x * 1000) d }
