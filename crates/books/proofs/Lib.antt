@@ -1,5 +1,2 @@
--- Laws of the books, and what the walks of functions over lent books share.
+-- Laws of the books.
 pub mod Laws
-pub mod Types
-pub mod Walk
-pub mod Local
