@@ -22,6 +22,7 @@ at_most a b same is h = by-case (ltb (a * 1) b) same (ltb→lt (a * 1) b) is h
     by-case : (less same : Bool) → (T less → a * 1 < b) → (T same → a * 1 ≡ b) → T (less || (same && true)) → T (leb a b)
     by-case true same f g h = le→leb a b (omega (arith, f tt))
     by-case false true f g h = le→leb a b (omega (arith, g tt))
+    by-case false false f g h = elim h [ ]
 
 not_at_most : (a b : ℕ) (same : Bool) (w : Measured) → (a * 1 ≡ b → T same) → T (not (ltb (a * 1) b || (same && true))) → Failed ≡ cond (leb a b) w Failed
 not_at_most a b same w is h = by-case (ltb (a * 1) b) same (leb a b) (nltb→le (a * 1) b) is (leb→le a b) h
@@ -32,9 +33,12 @@ not_at_most a b same w is h = by-case (ltb (a * 1) b) same (leb a b) (nltb→le 
     by-case : (less same most : Bool) → (T (not less) → b ≤ a * 1) → (a * 1 ≡ b → T same) → (T most → a ≤ b) → T (not (less || (same && true))) → Failed ≡ cond most w Failed
     by-case less same false f g k h = refl
     by-case false false true f g k h = absurd (clash (f tt) g (k tt))
+    by-case false true true f g k h = elim h [ ]
+    by-case true same true f g k h = elim h [ ]
 
 pub first_holds : (p q : Bool) → T p → T (p || q)
 first_holds true q t = tt
+first_holds false q t = elim t [ ]
 
 -- a number with a minus is below one without, if they are not both 0
 pub apart : (a b : ℕ) (q : Bool) → 0 < a + b → T (ltb 0 (a + b) || q)
@@ -48,6 +52,7 @@ Within (fin s m e) = T (in_range s (m * up e) (down e))
 
 pub within : (x : Float) → T (le low_end x) → T (le x high_end) → Within x
 unfolding le lt eq
+within nan a b = elim a [ ]
 within (inf true) a b = absurd a
 within (inf false) a b = absurd b
 within (fin false m e) a b = at_most (m * up e) (20000 * down e) (eqb (m * up e * 1) (20000 * down e)) (eqb→eq (m * up e * 1) (20000 * down e)) b

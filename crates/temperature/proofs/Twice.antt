@@ -4,7 +4,7 @@
 use Rattle.std.proofs.Common.{◌≡◌, ℕ, zero, suc, ◌+◌, ◌-◌, ◌*◌, ◌/◌, ◌%◌, ◌^◌, ◌<◌, ◌≤◌, min, Bool, true, false, cond, ◌&&◌, T, eqb, ltb, leb, ℤ, pos, negsuc, neg_ℤ, sym, refl, ap, ◌∙◌, subst, le_trans, le_of_eq, le_refl, lt_of_lt_of_le, le_of_suc-le-suc, lt_of_le_of_lt, lt_irrefl, mul-le-mul_right, mul_assoc, mul_comm, add-mul, lt_of_mul-lt-mul_right, mul-lt-mul_of_pos_right, mul-pos, one-mul, pow-suc, lt_of_not-le, mul-one, mul_right_comm, le_of_mul-le-mul_right, arith, lit<, lit≤, eqb→eq, ltb→lt, lt→ltb, leb→le, pow_pos, pow_mono, pow-add}
 use native.Mathlib.Nat.{add-div_right, div-div-eq-div-mul, div-le_of_le-mul}
 use lib.Pow.{pow-lt}
-use lib.Ieee.{Float, fin, binary64, up, down, round, sum, add, lt, eq, le, fits, to_signed}
+use lib.Ieee.{Float, nan, inf, fin, binary64, up, down, round, sum, add, lt, eq, le, fits, to_signed}
 use lib.Ieee.Fits.{down_pos, and_l, and_r}
 use lib.Ieee.Exact.{HasValue, round_exact}
 use lib.Ieee.Nearest.{div_same}
@@ -77,6 +77,8 @@ size_at_most n c a d D h v = le_of_mul-le-mul_right (le_trans (le_of_eq v) (le_t
 
 whole_part_asks : (y : Float) (s : Bool) (a d : ℕ) → 0 < d → a ≤ 40000 * d → HasValue y s a d → T (le (fin true 1 (pos 63)) y) × T (lt y (fin false 1 (pos 63)))
 unfolding le lt eq
+whole_part_asks nan s a d D h v = elim v [ ]
+whole_part_asks (inf _) s a d D h v = elim v [ ]
 whole_part_asks (fin false m e) s a d D h v =
     let C = down_pos e in
     let u = size_at_most (m * up e) (down e) a d D h v.1 in
@@ -92,6 +94,8 @@ not_capped false q h = ap pos (omega arith)
 
 whole_part_is : (y : Float) (s : Bool) (a d : ℕ) → 0 < d → a ≤ 40000 * d → HasValue y s a d → to_signed 63 y ≡ signed s (a / d)
 unfolding to_signed
+whole_part_is nan s a d D h v = elim v [ ]
+whole_part_is (inf _) s a d D h v = elim v [ ]
 whole_part_is (fin t m e) s a d D h v =
     let u = size_at_most (m * up e) (down e) a d D h v.1 in
     not_capped t (m * up e / down e) (div-le_of_le-mul (down e) (omega arith)) ∙ rw (v.0, div_same (m * up e) (down e) a d (down_pos e) D v.1)
@@ -117,6 +121,7 @@ twice_at_most true n d t = omega (arith, leb→le n (10000 * d) t)
 
 chosen : (b : Bool) (z : Measured) → T b → z ≡ cond b z Failed
 chosen true z t = refl
+chosen false z t = elim t [ ]
 
 -- what the program needs of x + x: that its whole part can be taken, and that it leads to the answer
 pub record Doubled (x : Float) : Type 0 where
@@ -126,6 +131,8 @@ pub record Doubled (x : Float) : Type 0 where
 
 pub doubled_of : (x : Float) → T (fits binary64 x) → Within x → Doubled x
 unfolding nearest_of
+doubled_of nan f w = elim w [ ]
+doubled_of (inf _) f w = elim w [ ]
 doubled_of (fin s m e) f w =
     let n = m * up e in
     let d = down e in

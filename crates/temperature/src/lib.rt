@@ -43,7 +43,6 @@ pub fn equation(c: Coefficients, raw: u16) -> f64
 
 // x + 0.5 could itself be rounded, so it is not used. x + x is exact. The answer is half of its whole part t, rounded away from zero: t / 2 rounds toward zero, and
 // the remainder t % 2, which is -1, 0 or 1, makes up for it.
-#[tactic(auto, using(crate::proofs::Half::half_away, crate::proofs::Half::half_fits, crate::proofs::Half::sum_is, crate::proofs::Half::sum_fits, crate::proofs::Range::within, crate::proofs::Range::too_low, crate::proofs::Range::too_high, crate::proofs::Twice::Doubled, crate::proofs::Twice::doubled_of))]
 pub fn nearest_hundredth(x: f64) -> Measured
     ensures { result ≡ nearest_of x }
 {
