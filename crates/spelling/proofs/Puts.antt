@@ -3,11 +3,11 @@
 use mathlib.Core.Path.{◌≡◌, refl, sym, ap, ◌∙◌, subst}
 use mathlib.Core.List.{List, [], ◌∷◌, ◌++◌, append_assoc, append-nil}
 use Prim.Native.Nat.{ℕ, ◌+◌, ◌-◌, ◌≤◌, ◌<◌}
-use native.Mathlib.Nat.{le_refl, min-le_left}
+use native.Mathlib.Nat.{le_refl}
 use native.Mathlib.Numerals.{add-one}
 use native.Mathlib.Omega.{arith}
 use borrow.Rule.Slice.PartMut.{put_mid, post_of, mid_len, same_len_mid, drop_put}
-use lib.ListN.{length, take, drop, set, length-set, length-append, take-append-drop, length-take}
+use lib.ListN.{length, take, drop, set, length-set, length-append, take-append-drop}
 use lib.Seq.{take-suc-set, take-add, take_at, length-take-le, drop_at, drop-set-lt, drop-drop}
 use Rattle.spelling.specs.Spelling.{Put}
 
@@ -15,6 +15,7 @@ pub byte : (l : List ℕ) (at b : ℕ) → at < length l → Put 1 l (set l at b
 byte l at b h =
     record {
       holds = rw (add-one at) (take-suc-set l at b h);
+      least = omega arith;
       ends = refl;
       most = le_refl (at + 1);
       past = drop-set-lt (at + 1) l at b (omega arith);
@@ -27,6 +28,7 @@ part l text at next h k e =
     let front : length (take at l ++ text) ≡ next = length-append (take at l) text ∙ rw (length-take-le at l (omega arith), e) (omega arith) in
     record {
       holds = ap (take next) (sym (append_assoc (take at l) text (post_of at (next - at) l))) ∙ take_at (take at l ++ text) (post_of at (next - at) l) next front;
+      least = h;
       ends = omega arith;
       most = omega arith;
       past = drop_put at next l text h k e;
@@ -44,20 +46,21 @@ pub two : {old mid new : List ℕ} {at a b : ℕ} {s t : List ℕ} {m n : ℕ} (
 two {old} {mid} {new} {at} {a} {b} {s} {t} k h p q =
     record {
       holds = q.holds ∙ ap (λ (l : List ℕ). l ++ t) p.holds ∙ append_assoc (take at old) s t;
+      least = omega (arith, p.least, q.least);
       ends = rw (length-append s t) (omega (arith, p.ends, q.ends));
       most = omega (arith, p.most, q.most);
-      past = q.past ∙ behind a b mid old (omega (arith, q.ends)) p.past;
+      past = q.past ∙ behind a b mid old q.least p.past;
       room = q.room ∙ p.room;
     }
 
 pub looser : {old new : List ℕ} {at next n : ℕ} {s : List ℕ} (k : ℕ) → n ≤ k → Put n old new at next s → Put k old new at next s
-looser k h p = record { holds = p.holds; ends = p.ends; most = omega (arith, p.most); past = p.past; room = p.room }
+looser k h p = record { holds = p.holds; least = p.least; ends = p.ends; most = omega (arith, p.most); past = p.past; room = p.room }
 
 pub retext : {old new : List ℕ} {at next n : ℕ} {s t : List ℕ} → s ≡ t → Put n old new at next s → Put n old new at next t
 retext {old} {new} {at} {next} {n} e p = subst (λ (x : List ℕ). Put n old new at next x) e p
 
 pub nothing_put : (n : ℕ) (old : List ℕ) (at : ℕ) → Put n old old at at []
-nothing_put n old at = record { holds = sym (append-nil (take at old)); ends = omega arith; most = omega arith; past = refl; room = refl }
+nothing_put n old at = record { holds = sym (append-nil (take at old)); least = le_refl at; ends = omega arith; most = omega arith; past = refl; room = refl }
 
 -- the next place is right behind the text
 pub next_is : {old new : List ℕ} {at next n : ℕ} {s : List ℕ} → Put n old new at next s → length s ≡ n → next ≡ at + n

@@ -56,6 +56,7 @@ text_over old text = take (length old) text ++ drop (length text) old
 -- as it was, and the length is the same
 pub record Put (n : ℕ) (old new : List ℕ) (at next : ℕ) (text : List ℕ) : Type 0 where
   pub holds : take next new ≡ take at old ++ text
+  pub least : at ≤ next
   pub ends : next ≡ at + length text
   pub most : next ≤ at + n
   pub past : drop next new ≡ drop next old

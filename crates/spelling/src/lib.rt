@@ -4,7 +4,7 @@
 ghost use Rattle.std.specs.Prelude.{◌≡◌, ◌<◌, min, length};
 ghost use Rattle.spelling.specs.Spelling.{same_b, glyph, digits, spellable, digits_over, digit_of, text_over};
 
-#[tactic(auto, using(crate::proofs::Alike::other_length, crate::proofs::Alike::passes_both, crate::proofs::Alike::stops_both, crate::proofs::Alike::both_end))]
+#[tactic(auto, using(crate::proofs::Alike::other_length, crate::proofs::Alike::passes_both, crate::proofs::Alike::stops_both))]
 pub fn same(a: &[u8], b: &[u8]) -> bool
     ensures { result ≡ same_b a.now b.now }
 {
@@ -48,7 +48,7 @@ fn has_glyphs(base: u64) -> bool
 }
 
 // Puts the last digits of a number over all of the part, beginning with the last.
-#[tactic(auto, using(crate::proofs::Spelled::digit_more, crate::proofs::Spelled::digits_done))]
+#[tactic(auto)]
 fn spell(part: &mut [u8], base: u64, n: u64)
     requires { (1 < base) × (base < 17) }
     ensures { part.new ≡ digits base (length part.old) n }
