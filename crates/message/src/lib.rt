@@ -54,7 +54,6 @@ const TEN: u64 = 10;
 
 // Each of these puts its text at a place of `out` and answers the place after it.
 
-#[tactic(auto, using(spelling::proofs::Lent::text_at))]
 fn put_text(out: &mut [u8], at: usize, text: &[u8]) -> usize
     requires { at + length text.now ≤ length out.old }
     ensures { Put (length text.now) out.old out.new at result text.now }
@@ -64,7 +63,6 @@ fn put_text(out: &mut [u8], at: usize, text: &[u8]) -> usize
     next
 }
 
-#[tactic(auto, using(spelling::proofs::Lent::digits_at), unfolding(spelling::specs::Spelling::spellable))]
 fn put_digits(out: &mut [u8], at: usize, k: usize, n: u64) -> usize
     requires { at + k ≤ length out.old }
     ensures { Put k out.old out.new at result (digits 10 k n) }
@@ -75,7 +73,6 @@ fn put_digits(out: &mut [u8], at: usize, k: usize, n: u64) -> usize
 }
 
 // A line: the address, and the value in nine digits, a point and three decimals.
-#[tactic(auto, using(spelling::proofs::Puts::two), unfolding(crate::specs::Message::line, crate::specs::Message::cubic_metres))]
 fn put_line(out: &mut [u8], at: usize, address: [u8; 5], litres: u64) -> usize
     requires { at + 25 ≤ length out.old }
     ensures { Put 25 out.old out.new at result (line address litres) }
@@ -89,7 +86,6 @@ fn put_line(out: &mut [u8], at: usize, address: [u8; 5], litres: u64) -> usize
 }
 
 // The six lines, and what ends the message before its check.
-#[tactic(auto, using(spelling::proofs::Puts::two), unfolding(crate::specs::Message::body))]
 fn put_body(out: &mut [u8], at: usize, v: Values) -> usize
     requires { at + 154 ≤ length out.old }
     ensures { Put 154 out.old out.new at result (body v) }
@@ -104,7 +100,7 @@ fn put_body(out: &mut [u8], at: usize, v: Values) -> usize
 }
 
 // The exclusive-or of all bytes of a part.
-#[tactic(auto, using(crate::proofs::Check::starts, crate::proofs::Check::takes_one, crate::proofs::Check::ends))]
+#[tactic(auto, using(crate::proofs::Check::starts, crate::proofs::Check::takes_one))]
 fn xor_of(part: &[u8]) -> u8
     ensures { result ≡ xor_of part.now }
 {

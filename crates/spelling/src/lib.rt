@@ -48,7 +48,6 @@ fn has_glyphs(base: u64) -> bool
 }
 
 // Puts the last digits of a number over all of the part, beginning with the last.
-#[tactic(auto)]
 fn spell(part: &mut [u8], base: u64, n: u64)
     requires { (1 < base) × (base < 17) }
     ensures { part.new ≡ digits base (length part.old) n }
