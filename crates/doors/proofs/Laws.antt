@@ -24,7 +24,7 @@ use Rattle.state.specs.declared.Core.{Core}
 use Rattle.state.specs.declared.State.{State}
 use Rattle.state.specs.State.{blank_cell, no_session, whole_b}
 use Rattle.state.proofs.Card.{passes, not_false}
-use Rattle.commands.specs.declared.Given.TheVariants as goal
+use Rattle.commands.specs.declared.Given.TheVariants as given
 use Rattle.asked.specs.Asked.{line_given}
 use Rattle.doors.specs.Doors.{session_at, other_at, placed, with_session, cell_at, with_cell, begun, begin_refusal, begin_by, begin_of, abandon_refusal, abandon_by, abandon_of, read_refusal, marked_read, read_after, read_by, read_of, write_refusal, staged_cell, write_after, write_by, write_of, commit_refusal, commit_lines, committed, ends_refused, refused_commit, commit_of, audit_line_of}
 use Rattle.doors.proofs.Stays.{read_accepted, write_accepted, begin_whole, abandon_whole, read_whole, write_whole}
@@ -264,6 +264,6 @@ ended_knows s door n h = and_left (whole_b s) (eqb n audit_lines) (not_false (wh
 
 -- a line that is given is line i of those held, newest first
 pub audit_line_held : (s : State) (i : ℕ) (audit : List AuditLine) → (audit_line_of s i audit).number ≡ 0
-    → (audit_line_of s i audit).given ≡ goal.Audit (get_or (held_lines audit_lines no_audit s.core.stores.audit.ring audit) i no_audit)
+    → (audit_line_of s i audit).given ≡ given.Audit (get_or (held_lines audit_lines no_audit s.core.stores.audit.ring audit) i no_audit)
 unfolding line_given
 audit_line_held s i audit e = rw e

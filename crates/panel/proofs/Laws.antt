@@ -31,7 +31,7 @@ use Rattle.state.specs.declared.State.{State}
 use Rattle.state.specs.State.{fresh, latched_b, whole_b}
 use Rattle.state.proofs.Sound.{Totalled, totals_sound, measured_sound, Sound, SoundCore, whole_sound, sound_whole, fresh_whole}
 use Rattle.asked.specs.Asked.{line_given}
-use Rattle.commands.specs.declared.Given.TheVariants as goal
+use Rattle.commands.specs.declared.Given.TheVariants as given
 use Rattle.commands.specs.Answers.{plain, Outcome, with_log}
 use Rattle.panel.specs.Panel.{start_refusal, start_of, no_lock, lock_in, with_lock, turn_codes, turned_core, turned, refused_turn, open_refusal, open_of, shut_refusal, shut_of, cleared_latches, cleared, clear_refusal, clear_by, clear_of, tick_refusal, ticked, tick_by, tick_of, reported, log_line_of, archive_line_of}
 
@@ -62,7 +62,7 @@ turned_whole s lock to log e =
     let c : SoundCore s.core = p.core in
     sound_whole (turned s lock to log).answer.state (record {
       core = record {
-        measured = c.decreases;
+        measured = c.measured;
         fit = c.fit;
         ordered = c.ordered;
         latched = c.latched;
@@ -108,7 +108,7 @@ cleared_whole s e =
     let c : SoundCore s.core = p.core in
     sound_whole (cleared s) (record {
       core = record {
-        measured = c.decreases;
+        measured = c.measured;
         fit = c.fit;
         ordered = c.ordered;
         latched = cleared_latched s.core.measured.alarms s.core.latches ∙ c.latched;
@@ -138,7 +138,7 @@ ticked_whole s n e =
     let c : SoundCore s.core = p.core in
     sound_whole (ticked s n) (record {
       core = record {
-        measured = c.decreases;
+        measured = c.measured;
         fit = c.fit;
         ordered = c.ordered;
         latched = c.latched;
@@ -264,11 +264,11 @@ turned_still s lock to log e h at =
 
 -- a line that is given is line i of those held, newest first
 pub log_line_held : (s : State) (i : ℕ) (log : List LogLine) → (log_line_of s i log).number ≡ 0
-    → (log_line_of s i log).given ≡ goal.Log (get_or (held_lines log_lines no_log s.core.stores.log.ring log) i no_log)
+    → (log_line_of s i log).given ≡ given.Log (get_or (held_lines log_lines no_log s.core.stores.log.ring log) i no_log)
 unfolding line_given
 log_line_held s i log e = rw e
 
 pub archive_line_held : (s : State) (i : ℕ) (archive : List ArchiveLine) → (archive_line_of s i archive).number ≡ 0
-    → (archive_line_of s i archive).given ≡ goal.Archive (get_or (held_lines archive_lines no_archive s.core.stores.archive archive) i no_archive)
+    → (archive_line_of s i archive).given ≡ given.Archive (get_or (held_lines archive_lines no_archive s.core.stores.archive archive) i no_archive)
 unfolding line_given
 archive_line_held s i archive e = rw e

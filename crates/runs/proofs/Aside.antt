@@ -20,7 +20,7 @@ use Rattle.doors.specs.Doors.{no_door, refused_commit}
 use Rattle.runs.specs.Rows.{rows_of, refused_by}
 use Rattle.runs.specs.Run.{Step, Cycle, Turn, Clear, Tick, Ask, Call, Commit, Begin, Read, Write, Abandon, Reply, World, step, Body, body_of, act_of, role_at, role}
 use Rattle.runs.specs.Run as command
-use Rattle.commands.specs.declared.Given.TheVariants as goal
+use Rattle.commands.specs.declared.Given.TheVariants as given
 use Rattle.steps.proofs.Keeps.{step_whole}
 use Rattle.runs.proofs.Effects.{after, given_by, step_is}
 
@@ -51,7 +51,7 @@ quiet b s = whole b no_session no_session s no_session_lem no_session_lem
 
 -- what a step comes to by its number n, t: whether that is 0
 abbrev comes_to : Step → ℕ → Bool → World → World × Reply
-comes_to x n t w = (cond t (after x w) (refused_by x w n), record { number = n; goal = cond t (given_by x w) goal.Nothing })
+comes_to x n t w = (cond t (after x w) (refused_by x w n), record { number = n; given = cond t (given_by x w) given.Nothing })
 
 -- a step that looks at no session: accepted, it does the same whatever they are; refused, it leaves all
 record Beside (x : Step) (b : Body) (n : ℕ) : Type 0 where

@@ -23,7 +23,7 @@ use Rattle.state.proofs.Sound.{SoundCore}
 use Rattle.doors.proofs.Stays.{commit_accepted, core_stays}
 use Rattle.runs.specs.Exactly.{Rows}
 use Rattle.runs.specs.Run.{Step, Cycle, Turn, Clear, Tick, Ask, Call, Commit, Begin, Read, Write, Abandon, World, Reply, plain, giving, step, role_at, role, Body}
-use Rattle.commands.specs.declared.Given.TheVariants as goal
+use Rattle.commands.specs.declared.Given.TheVariants as given
 
 -- ---- doors by their numbers
 
@@ -166,7 +166,7 @@ module _ {door : ℕ} {d : Door} (a : AtDoor door d) (b : Body) (m t : Session) 
 abbrev pub read_in : ℕ → Body → Session → Session × Reply
 read_in setting b s = (
   with_cell s setting (marked_read (cell_at s setting)),
-  giving 0 (goal.Value (cond (cell_at s setting).staged (cell_at s setting).value (get_or b.core.settings (setting - 1) no_setting).value)),
+  giving 0 (given.Value (cond (cell_at s setting).staged (cell_at s setting).value (get_or b.core.settings (setting - 1) no_setting).value)),
 )
 
 abbrev pub write_in : ℕ → Value → Session → Session × Reply
@@ -225,7 +225,7 @@ module _ {door : ℕ} {d : Door} (a : AtDoor door d) (b : Body) (m t : Session) 
   unfolding read_after
   read_after_lem setting = rw (session_at_lem a b.core m t) (with_session_lem a b.core m t (read_in setting b m).0)
 
-  read_value : (setting : ℕ) → giving 0 (goal.Value (value_read (state_at d b.core m t) door setting)) ≡ (read_in setting b m).1
+  read_value : (setting : ℕ) → giving 0 (given.Value (value_read (state_at d b.core m t) door setting)) ≡ (read_in setting b m).1
   unfolding value_read
   read_value setting = rw (session_at_lem a b.core m t, core_at d b.core m t)
 

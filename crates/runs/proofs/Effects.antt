@@ -21,7 +21,7 @@ use Rattle.commands.specs.declared.Brought.{Brought}
 use Rattle.cycle.specs.Cycle.{cycle_refusal, cycled_core, cycled, cycle_of}
 use Rattle.panel.specs.Panel.{turned_core, turned, clear_refusal, cleared, clear_by, tick_refusal, ticked, tick_by}
 use Rattle.doors.specs.Doors.{session_at, placed, with_session, commit_refusal, commit_lines, committed_core, committed, ends_refused, refused_commit, commit_of}
-use Rattle.commands.specs.declared.Given.TheVariants as goal
+use Rattle.commands.specs.declared.Given.TheVariants as given
 use Rattle.runs.specs.Exactly.{Rows, applies, earlier, lists_number, orderly_b}
 use Rattle.runs.specs.Exactly as exact
 use Rattle.runs.specs.Rows.{asking, rows_of, printed_after, last_number, place_in_table, refused_by}
@@ -46,13 +46,13 @@ after (Commit door) w = record {
 
 -- what it gives beside its number
 abbrev pub given_by : Step → World → Given
-given_by (Cycle r) w = goal.Nothing
-given_by (Turn turn) w = goal.Nothing
-given_by Clear w = goal.Nothing
-given_by (Tick named) w = goal.Emitted (emitted_of (all_ticked named w.state.core.outputs).emitted)
+given_by (Cycle r) w = given.Nothing
+given_by (Turn turn) w = given.Nothing
+given_by Clear w = given.Nothing
+given_by (Tick named) w = given.Emitted (emitted_of (all_ticked named w.state.core.outputs).emitted)
 given_by (Ask question) w = (asking question (body_of w)).gives
 given_by (Call door act) w = gives_at door act w.state
-given_by (Commit door) w = goal.Nothing
+given_by (Commit door) w = given.Nothing
 
 -- ---- what a step comes to, by its number
 
@@ -69,7 +69,7 @@ Comes x w o = o ≡ (cond (eqb (first_of (rows_of x w)) 0) (after x w) (refused_
 
 -- an answer that is chosen by its number
 chosen : {A : Type 0} (f : A → World × Reply) (y n : A) (k : ℕ) (a b : World) (t : Bool) → eqb k 0 ≡ t → f y ≡ (a, plain 0) → f n ≡ (b, plain k)
-    → f (cond (eqb k 0) y n) ≡ (cond (eqb k 0) a b, giving k goal.Nothing)
+    → f (cond (eqb k 0) y n) ≡ (cond (eqb k 0) a b, giving k given.Nothing)
 chosen f y n k a b true e p q = rw (eqb-true k 0 e) p
 chosen f y n k a b false e p q = rw e q
 
@@ -81,7 +81,7 @@ pub step_is : (x : Step) (w : World) → Comes x w (step x w)
 unfolding cycle_of cycle_refusal cycled turned clear_by clear_refusal tick_by tick_refusal commit_of commit_refusal
 step_is (Cycle r) w = let k = first_of (rows_of (Cycle r) w) in chosen (cycles w) _ _ k (after (Cycle r) w) w (eqb k 0) refl refl refl
 step_is (Turn turn) w = let k = first_of (rows_of (Turn turn) w) in ap (logs w) (turn_is turn w) ∙ chosen (logs w) _ _ k (after (Turn turn) w) w (eqb k 0) refl refl refl
-step_is Clear w = let k = first_of (rows_of Clear w) in rw (nothing_given k) (settled w k goal.Nothing (cleared w.state))
+step_is Clear w = let k = first_of (rows_of Clear w) in rw (nothing_given k) (settled w k given.Nothing (cleared w.state))
 step_is (Tick named) w = settled w (first_of (rows_of (Tick named) w)) (given_by (Tick named) w) (ticked w.state named)
 step_is (Ask question) w = let k = first_of (rows_of (Ask question) w) in rw (same_either (eqb k 0) w) (ap (λ (r : Reply). (w, r)) (reply_is question w))
 step_is (Call door act) w = call_is door act w ∙ settled w (first_of (rows_of (Call door act) w)) (gives_at door act w.state) _
@@ -107,7 +107,7 @@ on_cycle_lem h f d (Ask question) = refl
 on_cycle_lem h f d (Call door act) = refl
 on_cycle_lem h f d (Commit door) = refl
 
-pub measured_by_lem : (x : Step) (w : World) → (after x w).state.core.measured ≡ on_cycle (λ r. (cycled_core w.state.core r).decreases) w.state.core.measured x
+pub measured_by_lem : (x : Step) (w : World) → (after x w).state.core.measured ≡ on_cycle (λ r. (cycled_core w.state.core r).measured) w.state.core.measured x
 unfolding cycled turned turned_core cleared ticked with_session placed committed committed_core
 measured_by_lem (Cycle r) w = refl
 measured_by_lem (Turn turn) w = refl
@@ -118,8 +118,8 @@ measured_by_lem (Call door act) w = refl
 measured_by_lem (Commit door) w = refl
 
 -- and so of any part of what it measures
-pub part_by : {A : Type 0} (h : Measured → A) (x : Step) (w : World) → h (after x w).state.core.measured ≡ on_cycle (λ r. h (cycled_core w.state.core r).decreases) (h w.state.core.measured) x
-part_by h x w = ap h (measured_by_lem x w) ∙ on_cycle_lem h (λ r. (cycled_core w.state.core r).decreases) w.state.core.measured x
+pub part_by : {A : Type 0} (h : Measured → A) (x : Step) (w : World) → h (after x w).state.core.measured ≡ on_cycle (λ r. h (cycled_core w.state.core r).measured) (h w.state.core.measured) x
+part_by h x w = ap h (measured_by_lem x w) ∙ on_cycle_lem h (λ r. (cycled_core w.state.core r).measured) w.state.core.measured x
 
 -- ---- every command, every state
 

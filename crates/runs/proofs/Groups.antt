@@ -11,7 +11,7 @@ use Rattle.state.specs.Card.{first_of}
 use Rattle.asked.specs.Asked.{line_refusal, line_given, last_refusal, last_given}
 use Rattle.panel.specs.Panel.{turned, refused_turn, open_refusal, open_of, shut_refusal, shut_of, report_refusal, report_by, outputs_of, readout_refusal, readout_by}
 use Rattle.doors.specs.Doors.{session_at, with_session, cell_at, with_cell, begun, marked_read, staged_cell, value_read, begin_refusal, begin_by, abandon_refusal, abandon_by, read_refusal, read_after, read_by, write_refusal, write_after, write_by}
-use Rattle.commands.specs.declared.Given.TheVariants as goal
+use Rattle.commands.specs.declared.Given.TheVariants as given
 use Rattle.runs.specs.Rows.{asking, turn_rows, call_rows, rows_of, printed_after}
 use Rattle.runs.specs.Run.{LockTurn, Open, Shut, Question, Act, Begin, Read, Write, Abandon, Turn, Ask, Call, Given, Reply, World, with_state, plain, giving, lock_turned, reply_to, call_of, body_of, lock_of, opens_it}
 use Rattle.commands.specs.declared.Question.TheVariants as question
@@ -46,15 +46,15 @@ session_by (Write setting v) s = with_cell s setting (staged_cell (cell_at s set
 session_by Abandon s = no_session
 
 abbrev pub gives_at : ℕ → Act → State → Given
-gives_at door Begin s = goal.Nothing
-gives_at door (Read setting) s = goal.Value (value_read s door setting)
-gives_at door (Write setting v) s = goal.Nothing
-gives_at door Abandon s = goal.Nothing
+gives_at door Begin s = given.Nothing
+gives_at door (Read setting) s = given.Value (value_read s door setting)
+gives_at door (Write setting v) s = given.Nothing
+gives_at door Abandon s = given.Nothing
 
-pub nothing_given : (n : ℕ) → plain n ≡ giving n goal.Nothing
+pub nothing_given : (n : ℕ) → plain n ≡ giving n given.Nothing
 nothing_given n = by (eqb n 0)
   where
-    by : (t : Bool) → ◌≡◌ {A = Reply} (record { number = n; goal = goal.Nothing }) (record { number = n; goal = cond t goal.Nothing goal.Nothing })
+    by : (t : Bool) → ◌≡◌ {A = Reply} (record { number = n; given = given.Nothing }) (record { number = n; given = cond t given.Nothing given.Nothing })
     by true = refl
     by false = refl
 

@@ -19,7 +19,7 @@ use Rattle.asked.specs.Asked.{has_code, with_code, newest_of, newest_in, last_gi
 use Rattle.commands.specs.declared.Last.{Last}
 use Rattle.commands.specs.declared.Last.TheVariants.{Newest, NoneHeld}
 use Rattle.commands.specs.declared.Question.TheVariants as question
-use Rattle.commands.specs.declared.Given.TheVariants as goal
+use Rattle.commands.specs.declared.Given.TheVariants as given
 use Rattle.runs.specs.Run.{Step, Ask, World, Given, giving, number_of, step, corrector, started}
 use Rattle.runs.specs.History.{history, start_time}
 use Rattle.runs.specs.Lines.{log_shelf, wrote_in}
@@ -102,9 +102,9 @@ module _ (time supcode custcode : ℕ) (archive : List ArchiveLine) (log : List 
   lines = wrote_in log_shelf (start_time time) (history xs start)
 
   -- THE LINE ANSWERED IS THE LAST WITH THAT CODE AMONG THE LAST 250 THAT THE RUN WROTE. There is always an answer
-  pub last_exactly : (code : ℕ) → (step (Ask (question.Last code)) end).1 ≡ giving 0 (goal.Last (last_in code (start_time time) (history xs start)))
+  pub last_exactly : (code : ℕ) → (step (Ask (question.Last code)) end).1 ≡ giving 0 (given.Last (last_in code (start_time time) (history xs start)))
   unfolding last_given
   last_exactly code =
       given_by_lem _ _ _ (number_without_one time supcode custcode archive log audit sized xs (Ask (question.Last code)))
-      (ap (λ (l : List LogLine). goal.Last (newest_in code l)) (log_holds time supcode custcode archive log audit xs sized.log ∙ ends_alike log_lines lines)
-      ∙ ap goal.Last (sym (last_is_newest code (last_ones log_lines lines))))
+      (ap (λ (l : List LogLine). given.Last (newest_in code l)) (log_holds time supcode custcode archive log audit xs sized.log ∙ ends_alike log_lines lines)
+      ∙ ap given.Last (sym (last_is_newest code (last_ones log_lines lines))))

@@ -35,7 +35,7 @@ use Rattle.state.specs.State.{fresh, fresh_core}
 use Rattle.state.specs.Card.{first_of}
 use Rattle.commands.specs.declared.Brought.{Brought}
 use Rattle.commands.specs.declared.Question.TheVariants as question
-use Rattle.commands.specs.declared.Given.TheVariants as goal
+use Rattle.commands.specs.declared.Given.TheVariants as given
 use Rattle.cycle.specs.Cycle.{amounts_for, is_too_large, outputs_gained, gained_for, alarms_for, change_notes, loss_notes, changes, cycled_core, cycled}
 use Rattle.panel.specs.Panel.{turned_core, turned, cleared, ticked, start_of, start_refusal}
 use Rattle.doors.specs.Doors.{placed, with_session, committed_core, committed}
@@ -221,7 +221,7 @@ counts k a r past e l = rw (output_at_lem k past l, gain_is (followed (rule_at a
 
 -- ---- what a step gives beside its number: a tick alone says what was emitted
 
-emitted_none : (t : Bool) (v : Given) (k : ℕ) → emitted_by v ≡ [] → get_or (emitted_by (cond t v goal.Nothing)) k 0 ≡ 0
+emitted_none : (t : Bool) (v : Given) (k : ℕ) → emitted_by v ≡ [] → get_or (emitted_by (cond t v given.Nothing)) k 0 ≡ 0
 emitted_none true v k e = rw e
 emitted_none false v k e = refl
 
@@ -244,7 +244,7 @@ called_none door Abandon w = refl
 reply_by_lem : (x : Step) (w : World) → (step x w).1 ≡ giving (first_of (rows_of x w)) (given_by x w)
 reply_by_lem x w = ap (λ (o : World × Reply). o.1) (step_is x w)
 
-taken_is : (k : ℕ) (x : Step) (w : World) → taken_at k (x, (step x w).1) ≡ get_or (emitted_by (cond (eqb (first_of (rows_of x w)) 0) (given_by x w) goal.Nothing)) k 0
+taken_is : (k : ℕ) (x : Step) (w : World) → taken_at k (x, (step x w).1) ≡ get_or (emitted_by (cond (eqb (first_of (rows_of x w)) 0) (given_by x w) given.Nothing)) k 0
 taken_is k x w = ap (λ (a : Reply). get_or (emitted_by a.given) k 0) (reply_by_lem x w)
 
 taken_none : (k : ℕ) (x : Step) (w : World) → emitted_by (given_by x w) ≡ [] → taken_at k (x, (step x w).1) ≡ 0
@@ -255,7 +255,7 @@ tick_taken : (k : ℕ) (named : ℕ) (w : World) → taken_at k (Tick named, (st
 unfolding all_ticked listed
 tick_taken k named w = taken_is k (Tick named) w ∙ by (eqb (first_of (rows_of (Tick named) w)) 0)
   where
-    by : (t : Bool) → get_or (emitted_by (cond t (given_by (Tick named) w) goal.Nothing)) k 0 ≡ cond t (get_or (all_ticked named w.state.core.outputs).emitted k 0) 0
+    by : (t : Bool) → get_or (emitted_by (cond t (given_by (Tick named) w) given.Nothing)) k 0 ≡ cond t (get_or (all_ticked named w.state.core.outputs).emitted k 0) 0
     by true = refl
     by false = refl
 

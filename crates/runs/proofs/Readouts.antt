@@ -17,7 +17,7 @@ use Rattle.books.specs.declared.LogLine.{LogLine}
 use Rattle.books.specs.declared.AuditLine.{AuditLine}
 use Rattle.panel.specs.Panel.{values_of, readout_refusal, readout_by, readout_leaves}
 use Rattle.commands.specs.declared.Question.TheVariants as question
-use Rattle.commands.specs.declared.Given.TheVariants as goal
+use Rattle.commands.specs.declared.Given.TheVariants as given
 use Rattle.runs.specs.Run.{Step, Ask, World, giving, step, corrector, started}
 use Rattle.runs.specs.History.{History, history, start_time}
 use Rattle.runs.specs.Lines.{counters_in}
@@ -46,7 +46,7 @@ module _ (xs : List Step) (time supcode custcode : ℕ) (archive : List ArchiveL
 
   -- A READOUT AFTER A RUN IS GIVEN, into a buffer that is long enough. Its values are the sums of the history, cut off
   pub readout_given : (room : ℕ) → size ≤ room
-      → (step (Ask (question.Readout room)) end).1 ≡ giving 0 (goal.Readout (record { room = room; values = values_in past }))
+      → (step (Ask (question.Readout room)) end).1 ≡ giving 0 (given.Readout (record { room = room; values = values_in past }))
   unfolding readout_by readout_refusal
   readout_given room h = rw (always_whole xs time supcode custcode archive log audit, le-ltb room size h, counted)
 

@@ -26,7 +26,7 @@ use Rattle.state.specs.Card.{first_of}
 use Rattle.state.proofs.Card.{not_false}
 use Rattle.doors.specs.Doors.{no_door, no_such_setting, session_at, cell_at, value_read, as_stand, missing_at, lock_missing, stale_b}
 use Rattle.staging.proofs.Force.{stand_length}
-use Rattle.commands.specs.declared.Given.TheVariants as goal
+use Rattle.commands.specs.declared.Given.TheVariants as given
 use Rattle.runs.specs.Exactly.{earlier}
 use Rattle.runs.specs.Rows.{rows_of, unsound}
 use Rattle.runs.specs.Run.{Step, Call, Commit, Read, World, Reply, giving, number_of, step, corrector, started}
@@ -74,7 +74,7 @@ module _ (time supcode custcode : ℕ) (archive : List ArchiveLine) (log : List 
 
   -- WHAT AN ACCEPTED READ ANSWERS: the session's last write, else the value in force, both by the history
   pub read_exactly : (door setting : ℕ) → number_of (step (Call door (Read setting)) end).1 ≡ 0
-      → (step (Call door (Read setting)) end).1 ≡ giving 0 (goal.Value (seen_at door setting past))
+      → (step (Call door (Read setting)) end).1 ≡ giving 0 (given.Value (seen_at door setting past))
   unfolding value_read
   read_exactly door setting z =
       let x : Step = Call door (Read setting) in
@@ -86,7 +86,7 @@ module _ (time supcode custcode : ℕ) (archive : List ArchiveLine) (log : List 
       let value = ((known door d).tells live setting e).value in
       ap (λ (o : World × Reply). o.1) (step_is x end)
       ∙ rw n
-      (ap (λ (v : Value). giving 0 (goal.Value v)) (value (value_at end.state.core.settings (setting - 1))
+      (ap (λ (v : Value). giving 0 (given.Value v)) (value (value_at end.state.core.settings (setting - 1))
       ∙ ap (λ (v : Value). last_written door setting v past) (in_force_exactly time supcode custcode archive log audit xs setting e)))
 
   -- a lock is missing for a staged setting

@@ -16,7 +16,7 @@ use Rattle.panel.specs.Panel.{reported, report_refusal, report_by, report_of}
 use Rattle.panel.proofs.Laws.{total_litres, total_base}
 use Rattle.runs.specs.Run.{Step, Ask, World, giving, step, corrector, started}
 use Rattle.commands.specs.declared.Question.TheVariants as question
-use Rattle.commands.specs.declared.Given.TheVariants as goal
+use Rattle.commands.specs.declared.Given.TheVariants as given
 use Rattle.runs.specs.Sums.{Vm, VmD, Vb, VbD, sum_in}
 use Rattle.runs.specs.History.{History, history}
 use Rattle.runs.proofs.Keeps.{always_whole}
@@ -42,7 +42,7 @@ module _ (xs : List Step) (time supcode custcode : ℕ) (archive : List ArchiveL
   past = history xs start
 
   -- a report after a run is given
-  pub report_given : (step (Ask question.Report) end).1 ≡ giving 0 (goal.Report (reported end.state.core))
+  pub report_given : (step (Ask question.Report) end).1 ≡ giving 0 (given.Report (reported end.state.core))
   unfolding report_by report_refusal
   report_given = rw (always_whole xs time supcode custcode archive log audit)
 

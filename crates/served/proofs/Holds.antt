@@ -20,7 +20,7 @@ use Rattle.books.specs.declared.AuditLine.{AuditLine}
 use Rattle.state.specs.State.{whole_b}
 use Rattle.commands.specs.declared.Command.{Command}
 use Rattle.commands.specs.declared.Question.TheVariants as question
-use Rattle.commands.specs.declared.Given.TheVariants as goal
+use Rattle.commands.specs.declared.Given.TheVariants as given
 use Rattle.commands.specs.declared.Reply.{Reply}
 use Rattle.commands.specs.declared.Entry.{Entry}
 use Rattle.commands.specs.declared.Entry.TheVariants as entry
@@ -119,9 +119,9 @@ module _ (bs : List Block) (time supcode custcode : ℕ) where
       (λ t a b archive log audit s xs. rw (start_time_lem t a b (leb end_of_time t) refl) (audit_holds t a b archive log audit xs s.audit))
 
   -- THE NEWEST LINE WITH A CODE: asked of the desk, it is the last with that code among the last 250 lines written since the last start
-  pub served_last : (code : ℕ) → (step (Ask (question.Last code)) back).1 ≡ giving 0 (goal.Last (last_in code (started_at last.from) (history last.steps last.from)))
+  pub served_last : (code : ℕ) → (step (Ask (question.Last code)) back).1 ≡ giving 0 (given.Last (last_in code (started_at last.from) (history last.steps last.from)))
   served_last code =
-      holds_of_the_desk (λ w xs v. (step (Ask (question.Last code)) v).1 ≡ giving 0 (goal.Last (last_in code (started_at w) (history xs w))))
+      holds_of_the_desk (λ w xs v. (step (Ask (question.Last code)) v).1 ≡ giving 0 (given.Last (last_in code (started_at w) (history xs w))))
       (λ t a b archive log audit s xs. rw (start_time_lem t a b (leb end_of_time t) refl) (last_exactly t a b archive log audit s xs code))
 
   -- THE DESK'S STATE IS WHOLE
