@@ -2,10 +2,10 @@
 """Writes docs/SIZE.md: the lines of each crate, and what its check takes.
 
     tools/size.py                       counts the lines again; times and memory stay as they stand in the page
-    tools/size.py --watch COMMAND ..    runs the command, as `.ci/run` or `rt prove`, and takes time and memory of each crate that it proves
+    tools/size.py --watch COMMAND ..    runs the command, as `rt ci --anew`, and takes time and memory of each crate that it proves
 
-The time of a crate is what rt prints for it; its memory is the peak of the prover's process, looked up twice a second. Watch on a machine that
-does nothing else.
+The prover's processes are looked up twice a second. The time of a crate is how long one of them proves it, without its tests and edits; its memory is the peak of
+such a process. What rt kept of an earlier run is not proved, and keeps the figures that the page has. Watch on a machine that does nothing else.
 """
 import glob, os, re, subprocess, sys, threading, time
 
@@ -16,13 +16,13 @@ HEAD = """# How large it is, and what its check takes
 
 Written by `tools/size.py`; run it again after a change of the sources. The crates stand in the order of crates.txt, each after those that it uses.
 
-A line counts if it is neither empty nor only a comment. Code is `src`, definitions are `specs`, proof is `proofs`. "Walks" are that part of the proof which
-tools/walk.py writes (functions over lent stores). An edit is a deliberate mistake under `must-fail` that the prover must refuse. Seconds are the time of the crate's
-proof in one run of the gate from nothing, with up to ten crates at a time. Memory is the peak of the prover's process. "-" means not measured. The code
-of `calendar` includes the table of 1,201 day numbers, one a line.
+A line counts if it is neither empty nor only a comment. Code is `src`, with the attributes that say how a function is proved; definitions are `specs`, proof is
+`proofs`. An edit is a deliberate mistake under `must-fail` that the prover must refuse. Seconds are the time of the crate's proof in one run of the gate from
+nothing, beside others. Memory is the peak of the prover's process. "-" means not measured. The code of `calendar` includes the table of 1,201 day numbers, one a
+line.
 
 """
-COLUMNS = ["Crate", "Code", "Definitions", "Proof", "of it walks", "Edits", "Seconds", "Memory, MB"]
+COLUMNS = ["Crate", "Code", "Definitions", "Proof", "Edits", "Seconds", "Memory, MB"]
 MEASURED = re.compile(r"^Measured: .*$", re.M)
 
 
@@ -41,15 +41,14 @@ def lines(path, comment):
 
 
 def count(name):
-    """Lines of code, definitions, proof and walks, and the number of edits."""
+    """Lines of code, definitions and proof, and the number of edits."""
     def files(part, suffix):
         return glob.glob(os.path.join(ROOT, "crates", name, part, "**", "*" + suffix), recursive=True)
 
-    proofs = {path: lines(path, "--") for path in files("proofs", ".antt")}
-    walks = [path for path in proofs if "tools/walk.py" in open(path, encoding="utf-8").readline()]
     code = sum(lines(path, "//") for path in files("src", ".rt"))
     definitions = sum(lines(path, "--") for path in files("specs", ".antt"))
-    return [code, definitions, sum(proofs.values()), sum(proofs[path] for path in walks), len(files("must-fail", ".edit"))]
+    proof = sum(lines(path, "--") for path in files("proofs", ".antt"))
+    return [code, definitions, proof, len(files("must-fail", ".edit"))]
 
 
 def kept():
@@ -73,11 +72,14 @@ def write(taken, when):
     names = list(crates())
     counts = {name: count(name) for name in names}
     rows = [[name, *map(str, counts[name]), *taken.get(name, ["-", "-"])] for name in names]
-    sums = [str(sum(counts[name][i] for name in names)) for i in range(5)]
+    sums = [str(sum(counts[name][i] for name in names)) for i in range(4)]
     rows.append(["All", *sums, summed([row[-2] for row in rows]), summed([row[-1] for row in rows], most=True)])
     table = ["| " + " | ".join(row) + " |" for row in [COLUMNS, ["---"] + ["---:"] * (len(COLUMNS) - 1)] + rows]
     with open(PAGE, "w", encoding="utf-8") as page:
         page.write(HEAD + "\n".join(table) + "\n\nThe last row has the sums, and of memory the most.\n\n" + when + "\n")
+
+
+ELSE = {"--test", "--incremental", "--crate-checked"}  # in the words of a check of tests or of an edit, and of a build of what is proved
 
 
 def prover():
@@ -85,7 +87,7 @@ def prover():
     for path in glob.glob("/proc/[0-9]*/cmdline"):
         try:
             words = open(path, encoding="utf-8", errors="replace").read().split("\0")
-            if os.path.basename(words[0]) == "rattle" and "--crate-name" in words:
+            if os.path.basename(words[0]) == "rattle" and "--crate-name" in words and not ELSE & {*words}:
                 peak = re.search(r"VmHWM:\s*(\d+)", open(path.replace("cmdline", "status"), encoding="utf-8").read())
                 yield words[words.index("--crate-name") + 1], int(peak.group(1)) // 1024
         except (OSError, AttributeError):
@@ -93,25 +95,27 @@ def prover():
 
 
 def watch(command):
-    seconds, peaks = {}, {}
+    seen, peaks, proved = {}, {}, set()
     child = subprocess.Popen(command, cwd=ROOT, stdout=subprocess.PIPE, stderr=subprocess.STDOUT, text=True, errors="replace")
 
     def look():
         while child.poll() is None:
+            now = time.monotonic()
             for name, peak in prover():
                 peaks[name] = max(peaks.get(name, 0), peak)
+                seen[name] = (seen.get(name, (now, now))[0], now)
             time.sleep(0.5)
 
     threading.Thread(target=look, daemon=True).start()
     for line in child.stdout:
         print(line, end="", flush=True)
-        said = re.match(r"rt: (\w+) proved \((\d+) s\)", line)
+        said = re.fullmatch(r"rt: (\w+) proved\n", line)
         if said:
-            seconds[said.group(1)] = said.group(2)
+            proved.add(said.group(1))
     if child.wait():
         sys.exit("size: %s ended with status %d; the page stays as it is" % (" ".join(command), child.returncode))
     taken, _ = kept()
-    taken.update({name: [seconds[name], str(peaks.get(name, "-"))] for name in seconds})
+    taken.update({name: [str(round(end - start)), str(peaks[name])] for name, (start, end) in seen.items() if name in proved})
     write(taken, "Measured: %s, on %d processors." % (time.strftime("%Y-%m-%d"), os.cpu_count()))
 
 

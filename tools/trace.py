@@ -52,8 +52,8 @@ def stems(folder):
 
 # ---- which definitions are reached
 
-USED = re.compile(r"\buse Rattle·(\w+)(?:·\w+)?\.(specs|proofs)\.(\w+)\.\{([^}]*)\}")
-WORD = re.compile(r"[^\s(){}\[\],;.⌜⌝]+")
+USED = re.compile(r"\buse Rattle\.(\w+)\.(specs|proofs)\.(\w+)\.\{([^}]*)\}")
+WORD = re.compile(r"[^\s(){}\[\],;.]+")
 HEAD = re.compile(r"^( *)((?:unfoldable |abbrev )?)(pub )?((?!--|let |use |module |where)[^\n(){}=]*?) :(?: |$)")
 BLOCK = re.compile(r"^( *)(?:pub )?(?:data|record) ([^\s{]+)")
 
@@ -114,19 +114,17 @@ def parts(path):
 
 
 def contracts(text):
-    """The `ensures` of the public functions of a source file."""
+    """The clauses `ensures` of the public functions of a source file, those with a name too."""
     found = []
-    for function in re.split(r"^(?=(?:pub )?fn )", text, flags=re.M):
-        begun = function.find("ensures {")
-        if not function.startswith("pub fn ") or begun < 0:
+    for function in re.split(r"^(?= *(?:pub )?fn )", text, flags=re.M):
+        if not function.lstrip().startswith("pub fn "):
             continue
-        end, depth = function.index("{", begun), 0
-        while True:
-            depth += {"{": 1, "}": -1}.get(function[end], 0)
-            end += 1
-            if depth == 0:
-                break
-        found.append(function[begun:end])
+        for clause in re.finditer(r"^ *ensures (?:\w+ )?\{", function, flags=re.M):
+            end, depth = clause.end(), 1
+            while depth:
+                depth += {"{": 1, "}": -1}.get(function[end], 0)
+                end += 1
+            found.append(function[clause.start() : end])
     return found
 
 

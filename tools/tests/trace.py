@@ -10,23 +10,29 @@ import os, shutil, subprocess, sys, tempfile
 TOOLS = os.path.dirname(os.path.dirname(os.path.abspath(__file__)))
 
 SPECS = """-- Jars on a shelf.
-abbrev pub byContract : ℕ → ℕ
-byContract n = inBody n
+abbrev pub by_contract : ℕ → ℕ
+by_contract n = in_body n
 
-unfoldable pub inBody : ℕ → ℕ
-inBody n = n  -- noneNamesIt
+unfoldable pub in_body : ℕ → ℕ
+in_body n = n  -- none_names_it
 
-abbrev pub byTheorem : ℕ → ℕ
-byTheorem n = n
+abbrev pub by_theorem : ℕ → ℕ
+by_theorem n = n
 
-abbrev pub byPrivate : ℕ → ℕ
-byPrivate n = n
+abbrev pub by_private : ℕ → ℕ
+by_private n = n
 
-abbrev pub byProof : ℕ → ℕ
-byProof n = n
+abbrev pub by_proof : ℕ → ℕ
+by_proof n = n
 
-abbrev pub noneNamesIt : ℕ → ℕ
-noneNamesIt n = n
+abbrev pub by_later_clause : ℕ → ℕ
+by_later_clause n = n
+
+abbrev pub by_requires : ℕ → ℕ
+by_requires n = n
+
+abbrev pub none_names_it : ℕ → ℕ
+none_names_it n = n
 
 abbrev pub twice : ℕ → ℕ
 twice n = n
@@ -35,49 +41,64 @@ OTHER = """-- Another file with a name that also stands in Shelf.
 abbrev pub twice : ℕ → ℕ
 twice n = n
 """
-CODE = """ghost use Rattle·shelf·specs.specs.Shelf.{
-  byContract,
-  byPrivate,
+CODE = """ghost use Rattle.shelf.specs.Shelf.{
+  by_contract,
+  by_later_clause,
+  by_private,
+  by_requires,
 };
-ghost use Rattle·shelf·specs.specs.Other.{twice};
+ghost use Rattle.shelf.specs.Other.{twice};
 
+#[tactic(auto, unfolding(crate::specs::Shelf::none_names_it))]
 pub fn put(n: u64) -> u64
-    ensures { λ r. ⌜ (r ≡ byContract n) × (r ≡ twice n) ⌝ }
+    requires { by_requires n ≡ n }
+    ensures put { result ≡ by_contract n }
+    ensures put_twice { result ≡ twice n }
 {
     n
 }
 
 fn kept(n: u64) -> u64
-    ensures { λ r. ⌜ r ≡ byPrivate n ⌝ }
+    ensures { result ≡ by_private n }
 {
     n
 }
+
+impl Jar {
+    pub fn fill(&mut self, n: u64)
+        ensures {
+          self.new ≡ by_later_clause { n } self.old
+        }
+    {
+    }
+}
 """
 PROOFS = """-- Laws.
-use Rattle·shelf·specs.specs.Shelf.{byTheorem as told, byProof}
+use Rattle.shelf.specs.Shelf.{by_theorem as told, by_proof}
 
 pub law : (n : ℕ) → told n ≡ n
-unfolding byProof
-law n = byProof n
+unfolding by_proof
+law n = by_proof n
 
-helper : (n : ℕ) → byProof n ≡ n
+helper : (n : ℕ) → by_proof n ≡ n
 helper n = refl
 """
 PAGE = """# Where each sentence stands
 
 | Sentence | Definition | Theorem |
 |---|---|---|
-| one | `byContract`, `inBody`, `byTheorem` (shelf/specs/Shelf.antt), `twice` (shelf/specs/Other.antt) | `law` (shelf/proofs/Laws.antt), `put` (shelf/src/lib.rt) |
-| two | `byPrivate`, `byProof`, `noneNamesIt`, `twice` (shelf/specs/Shelf.antt) | - |
-| three | `notThere` (shelf/specs/Shelf.antt), `alone` | - |
-| four | nothing | - |
+| one | `by_contract`, `in_body`, `by_theorem` (shelf/specs/Shelf.antt), `twice` (shelf/specs/Other.antt) | `law` (shelf/proofs/Laws.antt), `put`, `fill` (shelf/src/lib.rt) |
+| two | `by_later_clause` (shelf/specs/Shelf.antt) | - |
+| three | `by_private`, `by_proof`, `by_requires`, `none_names_it`, `twice` (shelf/specs/Shelf.antt) | - |
+| four | `not_there` (shelf/specs/Shelf.antt), `alone` | - |
+| five | nothing | - |
 """
-UNREACHED = "docs/TRACE.md:6: %s of crates/shelf/specs/Shelf.antt is reached from no public contract and no theorem"
-FOUND = [UNREACHED % name for name in ("byPrivate", "byProof", "noneNamesIt", "twice")] + [
-    "docs/TRACE.md:7: notThere does not stand in crates/shelf/specs/Shelf.antt",
-    "docs/TRACE.md:7: alone is cited without a file",
-    "docs/TRACE.md:8: no place: | four | nothing | - |",
-    "trace: 4 rows, 11 names cited, 7 faults",
+UNREACHED = "docs/TRACE.md:7: %s of crates/shelf/specs/Shelf.antt is reached from no public contract and no theorem"
+FOUND = [UNREACHED % name for name in ("by_private", "by_proof", "by_requires", "none_names_it", "twice")] + [
+    "docs/TRACE.md:8: not_there does not stand in crates/shelf/specs/Shelf.antt",
+    "docs/TRACE.md:8: alone is cited without a file",
+    "docs/TRACE.md:9: no place: | five | nothing | - |",
+    "trace: 5 rows, 14 names cited, 8 faults",
 ]
 
 
