@@ -159,7 +159,7 @@ pub fn temperature_taken(
 }
 
 // T in kelvin. Outside the range of T the sum might not fit, so it gives 0 there; no setting and no T.Mes lies there.
-#[tactic(auto, using(ground::proofs::Flags::or_false_left, ground::proofs::Flags::or_false_right, ground::proofs::Signed::lt_back, ground::proofs::Signed::Cast, ground::proofs::Signed::cast, ground::proofs::Signed::shifted), unfolding(crate::specs::Plan::kelvin_guarded, crate::specs::Kelvin::kelvin_of))]
+#[tactic(auto, using(ground::proofs::Flags::or_false_left, ground::proofs::Flags::or_false_right, ground::proofs::Signed::lt_back, ground::proofs::Signed::cast, ground::proofs::Signed::shifted), unfolding(crate::specs::Plan::kelvin_guarded, crate::specs::Kelvin::kelvin_of))]
 pub fn kelvin(t: i64) -> u64
     ensures { result ≡ kelvin_guarded t }
 {

@@ -1,4 +1,4 @@
--- For a finite float the program's two tests against -10,000 and 20,000 agree with `inRange`, which goes by whole numbers. A float that fails one of them counts
+-- For a finite float the program's two tests against -10,000 and 20,000 agree with `in_range`, which goes by whole numbers. A float that fails one of them counts
 -- as failed.
 -- Assumes nothing.
 use Rattle.std.proofs.Common.{◌≡◌, ℕ, ◌+◌, ◌*◌, ◌<◌, ◌≤◌, Bool, true, false, cond, not, ◌&&◌, ◌||◌, T, eqb, ltb, leb, pos, sym, refl, arith, le→leb, eqb→eq, ltb→lt, lt→ltb, leb→le, nltb→le, T_not}
