@@ -247,7 +247,7 @@ fn gained_of(account: u64, b: Buffer) -> Gained
 }
 
 // The whole weights of the account, of the gain and of what both leave go to the buffer one after another, because the sum of account and gain might not fit 64 bits.
-#[tactic(auto, using(crate::proofs::Wholes::rest_is, crate::proofs::Wholes::wholes_parts, crate::proofs::Buffers::push_twice, crate::proofs::Credited::credited, crate::proofs::Credited::none_credited))]
+#[tactic(auto, using(crate::proofs::Credited::none_credited))]
 fn count(o: Output, weight: Account, gain: Account) -> Gained
     requires { weight.0 ≤ most_account }
     ensures { result ≡ credited_by weight.0 gain.0 o }
@@ -405,7 +405,7 @@ pub fn fresh_outputs() -> [Output; COUNT]
 }
 
 // After an accepted cycle, by the settings in force.
-#[tactic(auto, using(ground::proofs::Flags::whichever, ground::proofs::Listed::put_each, ground::proofs::Listed::all_put), unfolding(crate::specs::Plan::guarded_by, ground::specs::Below::in_turn, crate::specs::Plan::rule_guarded, crate::specs::Four::all_gained))]
+#[tactic(auto, unfolding(ground::specs::Below::in_turn))]
 pub fn after_gains(o: [Output; COUNT], a: [Setting; settings::COUNT], g: Gain) -> AllGained
     ensures { result ≡ all_gained (rule_guarded a) g o }
 {
@@ -437,7 +437,7 @@ pub fn no_gains(o: [Output; COUNT]) -> AllGained
     }
 }
 
-#[tactic(auto, using(ground::proofs::Listed::put_each, ground::proofs::Listed::all_put), unfolding(ground::specs::Below::in_turn, crate::specs::Four::all_ticked))]
+#[tactic(auto, unfolding(ground::specs::Below::in_turn))]
 pub fn after_ticks(o: [Output; COUNT], n: u64) -> AllTicked
     ensures { result ≡ all_ticked n o }
 {
@@ -458,7 +458,7 @@ pub fn after_ticks(o: [Output; COUNT], n: u64) -> AllTicked
 }
 
 // After an accepted commit: the settings before it, and as they stand now.
-#[tactic(auto, using(ground::proofs::Listed::put_each, ground::proofs::Listed::all_put), unfolding(ground::specs::Below::in_turn, crate::specs::Four::all_committed))]
+#[tactic(auto, unfolding(ground::specs::Below::in_turn))]
 pub fn after_commits(
     o: [Output; COUNT],
     a: [Setting; settings::COUNT],
@@ -476,7 +476,7 @@ pub fn after_commits(
     outputs
 }
 
-#[tactic(auto, unfolding(ground::specs::Below::all_below, crate::specs::Four::outputs_b))]
+#[tactic(auto, unfolding(ground::specs::Below::all_below))]
 pub fn outputs_ok(o: [Output; COUNT], a: [Setting; settings::COUNT]) -> bool
     ensures { result ≡ outputs_b (rule_at a) o }
 {
@@ -491,7 +491,7 @@ pub fn outputs_ok(o: [Output; COUNT], a: [Setting; settings::COUNT]) -> bool
     good
 }
 
-#[tactic(auto, using(ground::proofs::Listed::put_each, ground::proofs::Listed::all_put), unfolding(ground::specs::Below::in_turn, crate::specs::Plan::all_shown_guarded))]
+#[tactic(auto, unfolding(ground::specs::Below::in_turn))]
 pub fn outputs_shown(o: [Output; COUNT], a: [Setting; settings::COUNT]) -> [Shown; COUNT]
     ensures { result ≡ all_shown_guarded a o }
 {
