@@ -105,7 +105,7 @@ fn blank() -> [u8; message::SIZE]
 }
 
 // Reads any bytes. If some values have this message, they are those that its digits spell; so it is enough to compare with the message of these.
-#[tactic(auto, using(crate::proofs::Compared::other_length, crate::proofs::Compared::compared))]
+#[tactic(auto, using(crate::proofs::Compared::other_length))]
 pub fn parse(bytes: &[u8]) -> Parsed
     ensures { result ≡ parsed bytes.now }
 {
