@@ -1,5 +1,6 @@
 #!/usr/bin/env python3
-"""Writes the proofs of functions over lent books ("walks").
+"""Writes the proofs of functions over lent books ("walks"), for the older kit. Today's check covers these functions by itself: no walk is left in the crates, and rt
+has no `rt mir`, from which this tool took the steps. What it still does is what tools/tests/walk.py tries, with a kept listing.
 
     tools/walk.py [FILE ..]            FILE is one of tools/walks/*.py; with none, all of them
     tools/walk.py --check [FILE ..]    writes nothing; names each file that differs from what it would write and, with no FILE, each file
