@@ -1,6 +1,5 @@
--- The types that walks hand over; the plans are the paper's answers; the laws.
+-- The plans are the paper's answers; the laws; no freedom.
 pub mod Fixed
 pub mod Laws
 pub mod Buffer
 pub mod Planned
-pub mod Types
