@@ -1,9 +1,7 @@
 -- What one cycle measures, in the paper's order of work. Document 01, "One measuring cycle"; document 02, One and Three.
 -- Assumes nothing.
-use Rattle.std.specs.Prelude.{ℕ, zero, suc, ◌+◌, ◌-◌, Bool, true, false, not, cond, ◌&&◌, ◌||◌, List, [], ◌∷◌, ◌++◌, map, get_or, ℤ, Float}
+use Rattle.std.specs.Prelude.{ℕ, zero, suc, ◌+◌, ◌-◌, Bool, true, false, not, ◌&&◌, ◌||◌, List, [], ◌∷◌, ◌++◌, map, get_or, ℤ, Float}
 use Rattle.ground.specs.Below.{listed}
-use Rattle.units.specs.declared.Litres.{Litres}
-use Rattle.units.specs.declared.BaseUnits.{BaseUnits}
 use Rattle.units.specs.declared.Amounts.{Amounts}
 use Rattle.units.specs.declared.Amounts.TheVariants.{TooLarge, Counted}
 use Rattle.units.specs.Units.{plus_litres, plus_base, amounts_of}
@@ -16,9 +14,6 @@ use Rattle.outputs.specs.declared.AllGained.{AllGained}
 use Rattle.outputs.specs.Four.{output_count, rule_at, all_gained, none_gained}
 use Rattle.calendar.specs.Calendar.{month_of}
 use Rattle.temperature.specs.declared.Coefficients.{Coefficients}
-use Rattle.readings.specs.declared.RawTemperature.{RawTemperature}
-use Rattle.readings.specs.declared.Pressure.{Pressure}
-use Rattle.readings.specs.declared.Compressibility.{Compressibility}
 use Rattle.readings.specs.declared.Taken.{Taken}
 use Rattle.readings.specs.declared.TakenTemperature.{TakenTemperature}
 use Rattle.readings.specs.Pressure.{pressure_taken}
