@@ -8,7 +8,7 @@ ghost use Rattle.lines.specs.Lines.{room};
 ghost use Rattle.bench.specs.Bench.{ReadBehind, Refilled, Within, Stepped};
 
 use desk::Desk;
-use libc::{STDERR_FILENO, STDIN_FILENO, STDOUT_FILENO};
+use std::io::Read;
 
 // What is left of the input: the bytes from `from` up to `have`; whether a read may give more; whether the bench goes on.
 #[derive(Clone, Copy)]
@@ -33,30 +33,32 @@ struct Reached {
 }
 
 // Reads once, behind the bytes that are held.
-fn read_more(input: &mut [u8], held: usize) -> More
+fn read_more(rt: &HostRuntime, input: &mut [u8], held: usize) -> More
     requires { held ≤ length input.old }
     ensures { ReadBehind input.old input.new held result }
 {
-    let part = &mut input[held..];
-    let got = libc::read(STDIN_FILENO, part);
-    let failed = got < 0;
-    let n = io::count(got, part);
-    More {
-        n: n,
-        failed: failed,
+    let mut stdin = rt.stdin();
+    match stdin.read(&mut input[held..]) {
+        Ok(n) => More {
+            n: n,
+            failed: false,
+        },
+        Err(_) => More { n: 0, failed: true },
     }
 }
 
 // Keeps the unfinished line and reads more. At the end of the input a last line without a line feed is given one. If the read failed, that line stays unanswered.
 #[tactic(auto, using(crate::proofs::Parts::refilled, crate::proofs::Parts::feed_behind))]
-fn refill(input: &mut [u8], from: usize, have: usize) -> Window
+fn refill(rt: &HostRuntime, input: &mut [u8], from: usize, have: usize) -> Window
     requires { deciding < length input.old }
     ensures { Refilled input.old input.new from have result }
 {
     let held = text::words::keep(input, from, have);
-    let more = read_more(input, held);
+    let more = read_more(rt, input, held);
     if more.failed {
-        io::write_all(STDERR_FILENO, b"bench: the input could not be read\n");
+        let _ = rt
+            .stderr()
+            .write_all(b"bench: the input could not be read\n");
         return Window {
             from: 0,
             have: held,
@@ -91,14 +93,22 @@ fn refill(input: &mut [u8], from: usize, have: usize) -> Window
 
 // Answers the lines that are there and writes the answers. If there is none, reads more, unless the input has ended.
 #[tactic(auto, using(lines::proofs::Fronts::answers_within, lines::proofs::Fronts::at_within, crate::proofs::Parts::part_length, crate::proofs::Parts::stepped, crate::proofs::Parts::behind, crate::proofs::Parts::refilled_next))]
-fn step(d: Desk, input: &mut [u8], out: &mut [u8], from: usize, have: usize, more: bool) -> Reached
+fn step(
+    rt: &HostRuntime,
+    d: Desk,
+    input: &mut [u8],
+    out: &mut [u8],
+    from: usize,
+    have: usize,
+    more: bool,
+) -> Reached
     requires { (from ≤ have) × (have ≤ length input.old) × (deciding < length input.old) }
     ensures { Stepped d input.old input.new out.old out.new from have more result }
 {
     let answers = lines::answer(d, &input[from..have], out);
     let after = answers.desk;
     let used = answers.used;
-    let sent = io::write_all(STDOUT_FILENO, &out[..used]);
+    let sent = rt.stdout().write_all(&out[..used]).is_ok();
     if sent {
         if 0 < answers.at {
             let left = Window {
@@ -113,14 +123,16 @@ fn step(d: Desk, input: &mut [u8], out: &mut [u8], from: usize, have: usize, mor
             };
         }
         if more {
-            let left = refill(input, from, have);
+            let left = refill(rt, input, from, have);
             return Reached {
                 desk: after,
                 left: left,
             };
         }
     } else {
-        io::write_all(STDERR_FILENO, b"bench: an answer could not be written\n");
+        let _ = rt
+            .stderr()
+            .write_all(b"bench: an answer could not be written\n");
     }
     let left = Window {
         from: from,
@@ -134,6 +146,13 @@ fn step(d: Desk, input: &mut [u8], out: &mut [u8], from: usize, have: usize, mor
     }
 }
 
+// Room for a part of the input.
+fn large_buffer() -> [u8; 65536]
+    ensures { 65536 ≡ length result }
+{
+    [0; 65536]
+}
+
 // Room for the answers to a block of lines.
 fn answer_buffer() -> [u8; lines::ROOM]
     ensures { room ≡ length result }
@@ -141,8 +160,8 @@ fn answer_buffer() -> [u8; lines::ROOM]
     [0; lines::ROOM]
 }
 
-fn main() {
-    let mut input = io::large_buffer();
+fn main(rt: HostRuntime) {
+    let mut input = large_buffer();
     let mut out = answer_buffer();
     // The device that start time 0 and codes 0 give.
     let begun = desk::fresh(0, 0, 0);
@@ -158,7 +177,7 @@ fn main() {
             return;
         }
         turns -= 1;
-        let s = step(desk, &mut input, &mut out, from, have, more);
+        let s = step(&rt, desk, &mut input, &mut out, from, have, more);
         let next = s.desk;
         desk = next;
         let left = s.left;

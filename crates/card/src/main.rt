@@ -10,22 +10,26 @@ mod pulses;
 mod readout;
 mod table;
 
-use print::text;
+use print::{Printer, text};
+use std::io;
 
-fn main() {
-    text(b"# Hnchakorim: fault card and settings\n\n");
+fn main(rt: HostRuntime) -> io::Result<()> {
+    let mut out = Printer::new(&rt)?;
+    text(&mut out, b"# Hnchakorim: fault card and settings\n\n");
     text(
+        &mut out,
         b"Printed by the program `card`, with numbers, limits and sizes from the device's own constants, and settings, pairs and locks from its own rows; not edited by hand.\n\n",
     );
-    faults::run();
-    text(b"\n");
-    archive::run();
-    text(b"\n");
-    logbook::run();
-    text(b"\n");
-    pulses::run();
-    text(b"\n");
-    readout::run();
-    text(b"\n");
-    table::run();
+    faults::run(&mut out);
+    text(&mut out, b"\n");
+    archive::run(&mut out);
+    text(&mut out, b"\n");
+    logbook::run(&mut out);
+    text(&mut out, b"\n");
+    pulses::run(&mut out);
+    text(&mut out, b"\n");
+    readout::run(&mut out);
+    text(&mut out, b"\n");
+    table::run(&mut out);
+    out.finish()
 }

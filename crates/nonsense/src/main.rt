@@ -14,14 +14,19 @@ mod order;
 mod rows;
 mod values;
 
-fn main() {
-    clauses::run();
-    accounts::run();
-    values::run();
-    rows::run();
-    lengths::run();
-    order::run();
-    buffers::run();
-    captured::run();
-    newest::run();
+use print::Printer;
+use std::io;
+
+fn main(rt: HostRuntime) -> io::Result<()> {
+    let mut out = Printer::new(&rt)?;
+    clauses::run(&mut out);
+    accounts::run(&mut out);
+    values::run(&mut out);
+    rows::run(&mut out);
+    lengths::run(&mut out);
+    order::run(&mut out);
+    buffers::run(&mut out);
+    captured::run(&mut out);
+    newest::run(&mut out);
+    out.finish()
 }

@@ -2,7 +2,7 @@
 // are not held. What is given is printed whole.
 use books::LogLine;
 use commands::{Command, Given, Last, Question};
-use print::{end, number, text};
+use print::{Printer, end, number, text};
 use ring::{Book, Ring};
 use state::State;
 use trials::base::one_session;
@@ -28,30 +28,30 @@ fn logbook() -> [LogLine; LOG] {
     a
 }
 
-fn found(x: Last) {
+fn found(out: &mut Printer, x: Last) {
     match x {
         Last::Newest(l, looked) => {
-            number(l.number as u64);
-            number(l.time);
-            number(l.code);
-            number(looked);
+            number(out, l.number as u64);
+            number(out, l.time);
+            number(out, l.code);
+            number(out, looked);
         }
         Last::NoneHeld(looked) => {
-            text(b" -");
-            number(looked);
+            text(out, b" -");
+            number(out, looked);
         }
     }
 }
 
-fn told(g: Given) {
+fn told(out: &mut Printer, g: Given) {
     match g {
-        Given::Nothing => text(b" nothing"),
-        Given::Last(x) => found(x),
-        _ => text(b" something else"),
+        Given::Nothing => text(out, b" nothing"),
+        Given::Last(x) => found(out, x),
+        _ => text(out, b" something else"),
     }
 }
 
-fn ask(s: State, wanted: u64, x: Lines) {
+fn ask(out: &mut Printer, s: State, wanted: u64, x: Lines) {
     let c = Command::Ask(Question::Last(wanted));
     let archive = stores::archive();
     let audit = stores::audit();
@@ -68,22 +68,22 @@ fn ask(s: State, wanted: u64, x: Lines) {
     let a = t.answer;
     let reply = a.reply;
     let given = reply.given;
-    text(b"  last");
-    number(wanted);
-    text(b":");
-    number(reply.number);
-    told(given);
-    end();
+    text(out, b"  last");
+    number(out, wanted);
+    text(out, b":");
+    number(out, reply.number);
+    told(out, given);
+    end(out);
 }
 
-fn every_code(s: State, x: Lines) {
-    ask(s, 11, x);
-    ask(s, 12, x);
-    ask(s, 31, x);
-    ask(s, 42, x);
-    ask(s, 9, x);
-    ask(s, 0, x);
-    ask(s, 18_446_744_073_709_551_615, x);
+fn every_code(out: &mut Printer, s: State, x: Lines) {
+    ask(out, s, 11, x);
+    ask(out, s, 12, x);
+    ask(out, s, 31, x);
+    ask(out, s, 42, x);
+    ask(out, s, 9, x);
+    ask(out, s, 0, x);
+    ask(out, s, 18_446_744_073_709_551_615, x);
 }
 
 // So many lines of the logbook are held, the next goes to this place, and has this number.
@@ -92,39 +92,39 @@ fn holding(held: u64, next: u64, number: u16) -> State {
     change::log(one_session(), Book { ring, number })
 }
 
-fn put(held: u64, next: u64, line: u16) {
-    text(b"a logbook that holds");
-    number(held);
-    text(b", the next goes to");
-    number(next);
-    end();
-    every_code(holding(held, next, line), exact());
+fn put(out: &mut Printer, held: u64, next: u64, line: u16) {
+    text(out, b"a logbook that holds");
+    number(out, held);
+    text(out, b", the next goes to");
+    number(out, next);
+    end(out);
+    every_code(out, holding(held, next, line), exact());
 }
 
 // So many lines are lent.
-fn refused(events: usize) {
-    text(b"a logbook of");
-    number(events as u64);
-    end();
+fn refused(out: &mut Printer, events: usize) {
+    text(out, b"a logbook of");
+    number(out, events as u64);
+    end(out);
     let mut x = exact();
     x.events = events;
-    every_code(holding(250, 8, 258), x);
+    every_code(out, holding(250, 8, 258), x);
 }
 
-pub fn run() {
-    put(0, 0, 0);
-    put(1, 1, 1);
-    put(8, 8, 8);
-    put(249, 249, 249);
-    put(250, 0, 250);
-    put(250, 1, 251);
-    put(250, 7, 257);
-    put(250, 8, 258);
-    put(250, 249, 499);
+pub fn run(out: &mut Printer) {
+    put(out, 0, 0, 0);
+    put(out, 1, 1, 1);
+    put(out, 8, 8, 8);
+    put(out, 249, 249, 249);
+    put(out, 250, 0, 250);
+    put(out, 250, 1, 251);
+    put(out, 250, 7, 257);
+    put(out, 250, 8, 258);
+    put(out, 250, 249, 499);
     // These two are not what any number of lines gives.
-    put(8, 9, 8);
-    put(251, 0, 251);
-    refused(249);
-    refused(251);
-    refused(0);
+    put(out, 8, 9, 8);
+    put(out, 251, 0, 251);
+    refused(out, 249);
+    refused(out, 251);
+    refused(out, 0);
 }

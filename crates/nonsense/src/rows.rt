@@ -2,7 +2,8 @@
 // each set of open locks.
 use commands::{Act, Command};
 use print::{
-    end, flag, float, infinity, not_a_number, number, one_above, one_below, signed, text, title,
+    Printer, end, flag, float, infinity, not_a_number, number, one_above, one_below, signed, text,
+    title,
 };
 use settings::Value;
 use settings::table::{Row, row_of};
@@ -13,102 +14,106 @@ use trials::change::not_whole;
 use trials::trial::put_exact;
 
 // As the bench has it: w and a whole number, or c and the bits of a float.
-pub fn value(v: Value) {
+pub fn value(out: &mut Printer, v: Value) {
     match v {
         Value::Whole(n) => {
-            text(b" w");
-            signed(n);
+            text(out, b" w");
+            signed(out, n);
         }
         Value::Coefficient(x) => {
-            text(b" c");
-            float(x);
+            text(out, b" c");
+            float(out, x);
         }
     }
 }
 
-fn write(s: State, door: u64, r: Row, v: Value) {
-    text(b"  write");
-    number(door);
-    number(r.number);
-    value(v);
-    text(b":");
-    put_exact(s, Command::Call(door, Act::Write(r.number, v)));
-    end();
+fn write(out: &mut Printer, s: State, door: u64, r: Row, v: Value) {
+    text(out, b"  write");
+    number(out, door);
+    number(out, r.number);
+    value(out, v);
+    text(out, b":");
+    put_exact(out, s, Command::Call(door, Act::Write(r.number, v)));
+    end(out);
 }
 
-fn writes_of_whole(s: State, door: u64, r: Row) {
-    write(s, door, r, Value::Whole(one_below(r.lowest)));
-    write(s, door, r, Value::Whole(r.lowest));
-    write(s, door, r, Value::Whole(r.highest));
-    write(s, door, r, Value::Whole(one_above(r.highest)));
-    write(s, door, r, Value::Coefficient(1.0));
+fn writes_of_whole(out: &mut Printer, s: State, door: u64, r: Row) {
+    write(out, s, door, r, Value::Whole(one_below(r.lowest)));
+    write(out, s, door, r, Value::Whole(r.lowest));
+    write(out, s, door, r, Value::Whole(r.highest));
+    write(out, s, door, r, Value::Whole(one_above(r.highest)));
+    write(out, s, door, r, Value::Coefficient(1.0));
 }
 
-fn writes_of_coefficient(s: State, door: u64, r: Row) {
-    write(s, door, r, Value::Coefficient(-1.7976931348623157e308));
-    write(s, door, r, Value::Coefficient(1.7976931348623157e308));
-    write(s, door, r, Value::Coefficient(infinity()));
-    write(s, door, r, Value::Coefficient(-infinity()));
-    write(s, door, r, Value::Coefficient(not_a_number()));
-    write(s, door, r, Value::Whole(0));
+fn writes_of_coefficient(out: &mut Printer, s: State, door: u64, r: Row) {
+    write(out, s, door, r, Value::Coefficient(-1.7976931348623157e308));
+    write(out, s, door, r, Value::Coefficient(1.7976931348623157e308));
+    write(out, s, door, r, Value::Coefficient(infinity()));
+    write(out, s, door, r, Value::Coefficient(-infinity()));
+    write(out, s, door, r, Value::Coefficient(not_a_number()));
+    write(out, s, door, r, Value::Whole(0));
 }
 
-fn writes(s: State, door: u64, k: usize) {
+fn writes(out: &mut Printer, s: State, door: u64, k: usize) {
     let r = row_of(k);
     if r.coefficient {
-        writes_of_coefficient(s, door, r);
+        writes_of_coefficient(out, s, door, r);
     } else {
-        writes_of_whole(s, door, r);
+        writes_of_whole(out, s, door, r);
     }
 }
 
-fn every_write(s: State, door: u64) {
+fn every_write(out: &mut Printer, s: State, door: u64) {
     for k in 0..settings::COUNT {
-        writes(s, door, k);
+        writes(out, s, door, k);
     }
 }
 
 // With the locks as three binary digits, the calibration lock first.
-fn commit(s: State, r: Row, digits: u64) {
+fn commit(out: &mut Printer, s: State, r: Row, digits: u64) {
     let cal = digits / 4 % 2 == 1;
     let sup = digits / 2 % 2 == 1;
     let cust = digits % 2 == 1;
-    text(b"  commit of");
-    number(r.number);
-    flag(cal);
-    flag(sup);
-    flag(cust);
-    text(b":");
-    put_exact(change::locks(s, locks(cal, sup, cust)), Command::Commit(1));
-    end();
+    text(out, b"  commit of");
+    number(out, r.number);
+    flag(out, cal);
+    flag(out, sup);
+    flag(out, cust);
+    text(out, b":");
+    put_exact(
+        out,
+        change::locks(s, locks(cal, sup, cust)),
+        Command::Commit(1),
+    );
+    end(out);
 }
 
-fn with_each_set(s: State, r: Row) {
+fn with_each_set(out: &mut Printer, s: State, r: Row) {
     for digits in 0..8 {
-        commit(s, r, digits);
+        commit(out, s, r, digits);
     }
 }
 
 // The factory value is staged, and the locks stand in each way.
-fn commits(k: usize) {
+fn commits(out: &mut Printer, k: usize) {
     let r = row_of(k);
     let v = r.factory;
-    with_each_set(change::staged_alone(one_session(), k, v), r);
+    with_each_set(out, change::staged_alone(one_session(), k, v), r);
 }
 
-fn every_commit() {
+fn every_commit(out: &mut Printer) {
     for k in 0..settings::COUNT {
-        commits(k);
+        commits(out, k);
     }
 }
 
-pub fn run() {
-    title(b"each setting written");
-    every_write(one_session(), 1);
-    title(b"each setting written at a door with no session");
-    every_write(one_session(), 2);
-    title(b"each setting written, month 39");
-    every_write(not_whole(one_session()), 1);
-    title(b"each setting committed alone with these locks open");
-    every_commit();
+pub fn run(out: &mut Printer) {
+    title(out, b"each setting written");
+    every_write(out, one_session(), 1);
+    title(out, b"each setting written at a door with no session");
+    every_write(out, one_session(), 2);
+    title(out, b"each setting written, month 39");
+    every_write(out, not_whole(one_session()), 1);
+    title(out, b"each setting committed alone with these locks open");
+    every_commit(out);
 }

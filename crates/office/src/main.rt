@@ -7,7 +7,7 @@ ghost use Rattle.spelling.specs.Spelling.{Put};
 ghost use Rattle.reader.specs.Reader.{parsed};
 ghost use Rattle.text.specs.Echoes.{office_for};
 
-use libc::{STDERR_FILENO, STDIN_FILENO, STDOUT_FILENO};
+use std::io::Read;
 
 // One byte more than a message has is enough to know that it is none (`front_decides` in crates/reader/proofs/Laws.antt). So no more is read.
 const MOST: usize = message::SIZE + 1;
@@ -20,27 +20,27 @@ struct More {
 }
 
 // Reads once, behind the bytes that are held.
-fn read_more(input: &mut [u8], held: usize) -> More
+fn read_more(rt: &HostRuntime, input: &mut [u8], held: usize) -> More
     requires { held ≤ length input.old }
     ensures { held + result.n ≤ length input.new }
 {
-    let part = &mut input[held..];
-    let got = libc::read(STDIN_FILENO, part);
-    let failed = got < 0;
-    let n = io::count(got, part);
-    More {
-        n: n,
-        failed: failed,
+    let mut stdin = rt.stdin();
+    match stdin.read(&mut input[held..]) {
+        Ok(n) => More {
+            n: n,
+            failed: false,
+        },
+        Err(_) => More { n: 0, failed: true },
     }
 }
 
 // Reads until the buffer is full or the input ends.
-fn capture(input: &mut [u8]) -> More
+fn capture(rt: &HostRuntime, input: &mut [u8]) -> More
     ensures { result.n ≤ length input.new }
 {
     let mut held: usize = 0;
     while held < input.len() {
-        let more = read_more(input, held);
+        let more = read_more(rt, input, held);
         if more.failed {
             return More { n: 0, failed: true };
         }
@@ -78,19 +78,23 @@ fn blank() -> [u8; MOST]
     [0; MOST]
 }
 
-fn main() {
+fn main(rt: HostRuntime) {
     let mut input = blank();
     let mut out = room();
-    let captured = capture(&mut input);
+    let captured = capture(&rt, &mut input);
     if captured.failed {
-        let _ = io::write_all(STDERR_FILENO, b"office: the message could not be read\n");
+        let _ = rt
+            .stderr()
+            .write_all(b"office: the message could not be read\n");
         return;
     }
     let n = captured.n;
     let used = answer(&input[0..n], &mut out);
-    let sent = io::write_all(STDOUT_FILENO, &out[0..used]);
+    let sent = rt.stdout().write_all(&out[0..used]).is_ok();
     if sent {
         return;
     }
-    let _ = io::write_all(STDERR_FILENO, b"office: the answer could not be written\n");
+    let _ = rt
+        .stderr()
+        .write_all(b"office: the answer could not be written\n");
 }

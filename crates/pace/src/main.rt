@@ -3,9 +3,12 @@
 // accepted.
 #![tactic(auto)]
 
+ghost use Rattle.std.specs.Prelude.{◌≡◌, ◌+◌, ◌≤◌, length};
+
 use commands::{Echo, Reply};
 use desk::{Desk, Input, Response};
-use libc::{STDIN_FILENO, STDOUT_FILENO};
+use std::io;
+use std::io::Read;
 use text::numbers::Number;
 
 fn is_done(reply: Reply) -> bool {
@@ -73,10 +76,42 @@ fn timed(input: &[u8]) -> u64 {
     0
 }
 
-fn main() {
-    let mut space = io::large_buffer();
-    let have = io::read_full(STDIN_FILENO, &mut space);
+// Reads once, behind the bytes that are held, and gives how many bytes came: none at the end of the input, or if the read failed.
+fn read_more(rt: &HostRuntime, input: &mut [u8], held: usize) -> usize
+    requires { held ≤ length input.old }
+    ensures { held + result ≤ length input.new }
+{
+    let mut stdin = rt.stdin();
+    match stdin.read(&mut input[held..]) {
+        Ok(n) => n,
+        Err(_) => 0,
+    }
+}
+
+// Reads until the buffer is full, the input ends or a read fails, and gives how many bytes are at its front.
+fn read_full(rt: &HostRuntime, input: &mut [u8]) -> usize
+    ensures { result ≤ length input.new }
+{
+    let mut held: usize = 0;
+    while held < input.len() {
+        let n = read_more(rt, input, held);
+        if n == 0 {
+            return held;
+        }
+        held += n;
+    }
+    held
+}
+
+fn large_buffer() -> [u8; 65536]
+    ensures { 65536 ≡ length result }
+{
+    [0; 65536]
+}
+
+fn main(rt: HostRuntime) -> io::Result<()> {
+    let mut space = large_buffer();
+    let have = read_full(&rt, &mut space);
     let found = timed(&space[..have]);
-    let _ = io::print_decimal(STDOUT_FILENO, found);
-    let _ = io::write_all(STDOUT_FILENO, b"\n");
+    println!(rt; "{found}")
 }

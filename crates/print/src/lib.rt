@@ -3,8 +3,10 @@
 
 ghost use Rattle.std.specs.Prelude.{◌≡◌, ◌<◌, true};
 
-use libc::STDOUT_FILENO;
 use settings::Value;
+use std::fmt::Display;
+use std::io;
+use std::io::{BufWriter, Stdout, Write};
 
 const SPACE: u8 = 32;
 
@@ -13,8 +15,47 @@ pub const LEAST: i64 = -9_223_372_036_854_775_808;
 
 pub const MOST: i64 = 9_223_372_036_854_775_807;
 
-pub fn text(s: &[u8]) {
-    io::write_all(STDOUT_FILENO, s);
+// Standard output, and the first write of it that failed. After that one nothing more is written, and `finish` answers with it.
+pub struct Printer {
+    to: BufWriter<Stdout>,
+    failure: Option<io::Error>,
+}
+
+impl Printer {
+    pub fn new(rt: &HostRuntime) -> io::Result<Printer> {
+        let to = BufWriter::new(rt.alloc(), rt.stdout())?;
+        Ok(Printer { to, failure: None })
+    }
+
+    // Writes what is left in the buffer.
+    pub fn finish(self) -> io::Result<()> {
+        let Printer { mut to, failure } = self;
+        match failure {
+            None => to.flush(),
+            Some(e) => Err(e),
+        }
+    }
+}
+
+pub fn text(out: &mut Printer, s: &[u8]) {
+    if out.failure.is_none() {
+        if let Err(e) = out.to.write_all(s) {
+            out.failure = Some(e);
+        }
+    }
+}
+
+fn shown<D: Display + Drop>(out: &mut Printer, value: D) {
+    if out.failure.is_none() {
+        if let Err(e) = out.to.write_fmt(value) {
+            out.failure = Some(e);
+        }
+    }
+}
+
+// A number alone, with no space before it.
+pub fn decimal(out: &mut Printer, n: u64) {
+    shown(out, n);
 }
 
 fn blank_before(s: &[u8], n: usize) -> bool
@@ -29,31 +70,31 @@ fn blank_before(s: &[u8], n: usize) -> bool
 }
 
 // Without the spaces at its end.
-pub fn trimmed(s: &[u8]) {
+pub fn trimmed(out: &mut Printer, s: &[u8]) {
     let mut n = s.len();
     while blank_before(s, n) {
         n = n - 1;
     }
-    text(&s[0..n]);
+    text(out, &s[0..n]);
 }
 
-pub fn end() {
-    text(b"\n");
+pub fn end(out: &mut Printer) {
+    text(out, b"\n");
 }
 
 // Between a question and its answer.
-pub fn gives() {
-    text(b" =");
+pub fn gives(out: &mut Printer) {
+    text(out, b" =");
 }
 
-pub fn title(s: &[u8]) {
-    text(s);
-    end();
+pub fn title(out: &mut Printer, s: &[u8]) {
+    text(out, s);
+    end(out);
 }
 
-pub fn number(n: u64) {
-    text(b" ");
-    io::print_decimal(STDOUT_FILENO, n);
+pub fn number(out: &mut Printer, n: u64) {
+    text(out, b" ");
+    decimal(out, n);
 }
 
 // A number without its sign. For a negative n, !n is its size less one, which fits even for the lowest number.
@@ -66,23 +107,23 @@ pub fn magnitude(n: i64) -> u64 {
     }
 }
 
-pub fn whole(n: i64) {
+pub fn whole(out: &mut Printer, n: i64) {
     if n < 0 {
-        text(b"-");
+        text(out, b"-");
     }
-    io::print_decimal(STDOUT_FILENO, magnitude(n));
+    decimal(out, magnitude(n));
 }
 
-pub fn signed(n: i64) {
-    text(b" ");
-    whole(n);
+pub fn signed(out: &mut Printer, n: i64) {
+    text(out, b" ");
+    whole(out, n);
 }
 
-pub fn flag(b: bool) {
+pub fn flag(out: &mut Printer, b: bool) {
     if b {
-        text(b" yes");
+        text(out, b" yes");
     } else {
-        text(b" no");
+        text(out, b" no");
     }
 }
 
@@ -95,29 +136,30 @@ pub fn bits(x: f64) -> u64 {
 }
 
 // A float as the 16 digits of its bits, so that printing rounds nothing.
-pub fn pattern(x: f64) {
+pub fn pattern(out: &mut Printer, x: f64) {
     let is_number = x == x;
     if is_number {
-        io::print_hex(STDOUT_FILENO, bits(x), 16);
+        let n = bits(x);
+        shown(out, format_args!("{n:016x}"));
     } else {
-        text(b"nan");
+        text(out, b"nan");
     }
 }
 
-pub fn float(x: f64) {
-    text(b" ");
-    pattern(x);
+pub fn float(out: &mut Printer, x: f64) {
+    text(out, b" ");
+    pattern(out, x);
 }
 
-fn pair(b: u8) {
-    io::print_hex(STDOUT_FILENO, b as u64, 2);
+fn pair(out: &mut Printer, b: u8) {
+    shown(out, format_args!("{b:02x}"));
 }
 
 // Bytes in a row, two digits each.
-pub fn hex(s: &[u8]) {
+pub fn hex(out: &mut Printer, s: &[u8]) {
     let mut i: usize = 0;
     while i < s.len() {
-        pair(s[i]);
+        pair(out, s[i]);
         i += 1;
     }
 }

@@ -4,7 +4,7 @@ use crate::lend::Lent;
 use crate::{change, lend, same, stores};
 use commands::{Command, Entry, Given};
 use ground::both;
-use print::{end, number, text};
+use print::{Printer, end, number, text};
 use reader::Parsed;
 use state::State;
 use text::words::LINE_FEED;
@@ -50,15 +50,15 @@ fn ended(s: State, door: u64, after: State) -> bool {
 }
 
 // Compares what came back with what went in. If only a session has ended, its door is named.
-fn fate(s: State, after: State, kept: bool) {
+fn fate(out: &mut Printer, s: State, after: State, kept: bool) {
     if both(kept, same::states(s, after)) {
-        text(b" same");
+        text(out, b" same");
     } else if both(kept, ended(s, 1, after)) {
-        text(b" ended 1");
+        text(out, b" ended 1");
     } else if both(kept, ended(s, 2, after)) {
-        text(b" ended 2");
+        text(out, b" ended 2");
     } else {
-        text(b" changed");
+        text(out, b" changed");
     }
 }
 
@@ -69,70 +69,70 @@ fn outcome(s: State, c: Command, x: Lines) -> Lent {
     lend::put(s, c, archive, log, audit, x.months, x.events, x.changes)
 }
 
-fn told(s: State, t: Lent) {
+fn told(out: &mut Printer, s: State, t: Lent) {
     let a = t.answer;
     let reply = a.reply;
     let after = a.state;
     let given = reply.given;
-    number(reply.number);
-    fate(s, after, stores_kept(t));
+    number(out, reply.number);
+    fate(out, s, after, stores_kept(t));
     if gives_value(given) {
-        text(b" value");
+        text(out, b" value");
     }
 }
 
 // One command, over stores of their exact lengths.
-pub fn put_exact(s: State, c: Command) {
-    told(s, outcome(s, c, exact()));
+pub fn put_exact(out: &mut Printer, s: State, c: Command) {
+    told(out, s, outcome(s, c, exact()));
 }
 
 // A start is lent nothing, and replaces the state.
-fn started(s: State, time: u64, supcode: u32, custcode: u32) {
+fn started(out: &mut Printer, s: State, time: u64, supcode: u32, custcode: u32) {
     let a = panel::start(time, supcode, custcode);
     let reply = a.reply;
     let after = a.state;
-    number(reply.number);
-    fate(s, after, true);
+    number(out, reply.number);
+    fate(out, s, after, true);
 }
 
 // The reader is lent no state.
-fn parsed(s: State, p: Parsed) {
+fn parsed(out: &mut Printer, s: State, p: Parsed) {
     match p {
-        Parsed::Accepted(_) => number(state::faults::DONE),
-        Parsed::Refused(n) => number(n),
+        Parsed::Accepted(_) => number(out, state::faults::DONE),
+        Parsed::Refused(n) => number(out, n),
     }
-    fate(s, s, true);
+    fate(out, s, s, true);
 }
 
-fn answer(s: State, e: Entry, x: Lines) {
+fn answer(out: &mut Printer, s: State, e: Entry, x: Lines) {
     match e {
-        Entry::Nothing => text(b" nothing"),
-        Entry::Unknown => text(b" unknown"),
+        Entry::Nothing => text(out, b" nothing"),
+        Entry::Unknown => text(out, b" unknown"),
         Entry::Start {
             time,
             supcode,
             custcode,
-        } => started(s, time, supcode, custcode),
-        Entry::Put(c) => told(s, outcome(s, c, x)),
-        Entry::Parse(p) => parsed(s, p),
+        } => started(out, s, time, supcode, custcode),
+        Entry::Put(c) => told(out, s, outcome(s, c, x)),
+        Entry::Parse(p) => parsed(out, s, p),
     }
 }
 
-fn trial(line: &[u8], s: State, x: Lines) {
-    text(b"  ");
-    text(line);
-    text(b":");
-    answer(s, text::entries::entry_of(line), x);
-    end();
+fn trial(out: &mut Printer, line: &[u8], s: State, x: Lines) {
+    text(out, b"  ");
+    text(out, line);
+    text(out, b":");
+    answer(out, s, text::entries::entry_of(line), x);
+    end(out);
 }
 
 // Every line of the list.
-pub fn each(list: &[u8], s: State, x: Lines) {
+pub fn each(out: &mut Printer, list: &[u8], s: State, x: Lines) {
     let mut at: usize = 0;
     let mut n = text::words::first_of(list, LINE_FEED);
     while n < list.len() - at {
         let stop = at + n;
-        trial(&list[at..stop], s, x);
+        trial(out, &list[at..stop], s, x);
         at = stop + 1;
         n = text::words::first_of(&list[at..], LINE_FEED);
     }

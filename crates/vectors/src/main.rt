@@ -13,15 +13,20 @@ mod table;
 mod taken;
 mod totals;
 
-fn main() {
-    months::run();
-    factors::run();
-    amounts::run();
-    totals::run();
-    measures::run();
-    taken::run();
-    table::run();
-    stores::run();
-    pulses::run();
-    messages::run();
+use print::Printer;
+use std::io;
+
+fn main(rt: HostRuntime) -> io::Result<()> {
+    let mut out = Printer::new(&rt)?;
+    months::run(&mut out);
+    factors::run(&mut out);
+    amounts::run(&mut out);
+    totals::run(&mut out);
+    measures::run(&mut out);
+    taken::run(&mut out);
+    table::run(&mut out);
+    stores::run(&mut out);
+    pulses::run(&mut out);
+    messages::run(&mut out);
+    out.finish()
 }

@@ -1,7 +1,7 @@
 // The pulse outputs: how each of the four stands after a cycle, a tick and a commit, and what is shown of it. Every question is put to four outputs with rules of their own,
 // and each of them has its line: its number, what was asked, and what came of it.
 use outputs::{Account, COUNT, Gain, Output};
-use print::{end, flag, gives, number, signed, text};
+use print::{Printer, end, flag, gives, number, signed, text};
 use settings::table::{CHOICE_1, WEIGHT_1};
 use settings::{Setting, Value};
 use units::{BaseUnits, Litres};
@@ -72,34 +72,34 @@ fn rules(x: Four) -> [Setting; settings::COUNT] {
     with(g, WEIGHT_1 + 3, x.four.weight)
 }
 
-fn rule(x: Case) {
-    signed(x.choice);
-    signed(x.weight);
+fn rule(out: &mut Printer, x: Case) {
+    signed(out, x.choice);
+    signed(out, x.weight);
 }
 
-fn stands(o: Output) {
-    number(o.account.0);
-    number(o.waiting as u64);
-    number(o.lost as u64);
+fn stands(out: &mut Printer, o: Output) {
+    number(out, o.account.0);
+    number(out, o.waiting as u64);
+    number(out, o.lost as u64);
 }
 
 // ---- after a cycle
 
-fn gained(k: u64, x: Case, g: Gain, after: Output, over: bool) {
-    text(b"output-gain");
-    number(k);
-    rule(x);
-    stands(x.output);
-    flag(g.disturbed);
-    number(g.litres.0);
-    number(g.base.0);
-    gives();
-    stands(after);
-    flag(over);
-    end();
+fn gained(out: &mut Printer, k: u64, x: Case, g: Gain, after: Output, over: bool) {
+    text(out, b"output-gain");
+    number(out, k);
+    rule(out, x);
+    stands(out, x.output);
+    flag(out, g.disturbed);
+    number(out, g.litres.0);
+    number(out, g.base.0);
+    gives(out);
+    stands(out, after);
+    flag(out, over);
+    end(out);
 }
 
-fn gain(disturbed: bool, litres: u64, base: u64, x: Four) {
+fn gain(out: &mut Printer, disturbed: bool, litres: u64, base: u64, x: Four) {
     let g = Gain {
         disturbed,
         litres: Litres(litres),
@@ -108,10 +108,10 @@ fn gain(disturbed: bool, litres: u64, base: u64, x: Four) {
     let r = outputs::after_gains(held(x), rules(x), g);
     let after = r.outputs;
     let over = r.over;
-    gained(1, x.one, g, after[0], over[0]);
-    gained(2, x.two, g, after[1], over[1]);
-    gained(3, x.three, g, after[2], over[2]);
-    gained(4, x.four, g, after[3], over[3]);
+    gained(out, 1, x.one, g, after[0], over[0]);
+    gained(out, 2, x.two, g, after[1], over[1]);
+    gained(out, 3, x.three, g, after[2], over[2]);
+    gained(out, 4, x.four, g, after[3], over[3]);
 }
 
 // Every choice from 1 to 6 and an output that is off, each with a weight, a buffer and a lost counter of its own. A pulse is more than the cycle brings: it takes what is
@@ -135,43 +135,43 @@ fn last_four(vbd: u64, vbt: u64, vm: u64) -> Four {
 }
 
 // The cycle of H4: 1,000 litres, which are 1,863.55 at base conditions.
-fn cycle(x: Four) {
-    gain(false, 1_000, 186_355_000, x);
-    gain(true, 1_000, 186_355_000, x);
+fn cycle(out: &mut Printer, x: Four) {
+    gain(out, false, 1_000, 186_355_000, x);
+    gain(out, true, 1_000, 186_355_000, x);
 }
 
 // One weight exactly, one short of it, one more.
-fn around_a_weight() {
-    cycle(first_four(1_000, 1_500, 2_000, 213_645_000));
-    cycle(last_four(13_645_000, 63_645_000, 3_000));
-    cycle(first_four(999, 1_499, 1_999, 213_644_999));
-    cycle(last_four(13_644_999, 63_644_999, 2_999));
-    cycle(first_four(1_001, 1_501, 2_001, 213_645_001));
-    cycle(last_four(13_645_001, 63_645_001, 3_001));
+fn around_a_weight(out: &mut Printer) {
+    cycle(out, first_four(1_000, 1_500, 2_000, 213_645_000));
+    cycle(out, last_four(13_645_000, 63_645_000, 3_000));
+    cycle(out, first_four(999, 1_499, 1_999, 213_644_999));
+    cycle(out, last_four(13_644_999, 63_644_999, 2_999));
+    cycle(out, first_four(1_001, 1_501, 2_001, 213_645_001));
+    cycle(out, last_four(13_645_001, 63_645_001, 3_001));
 }
 
 // Many weights; no amount at all.
-fn many_weights() {
+fn many_weights(out: &mut Printer) {
     let small = all(
         asked(1, 7, 6, 0, 0),
         asked(2, 9, 0, 1, 1),
         asked(3, 1, 0, 2, 2),
         asked(4, 100, 9_999_999, 3, 3),
     );
-    cycle(small);
+    cycle(out, small);
     let others = all(
         asked(5, 1, 99_999, 4, 4),
         asked(6, 3, 0, 5, 5),
         asked(0, 1, 0, 6, 6),
         asked(2, 11, 10, 7, 7),
     );
-    cycle(others);
-    gain(false, 0, 0, small);
-    gain(true, 0, 0, others);
+    cycle(out, others);
+    gain(out, false, 0, 0, small);
+    gain(out, true, 0, 0, others);
 }
 
 // The least weight, that of the factory and the most, with the largest cycle: 600 pulses of 100,000 litres at the largest factor. The account takes part, just below its weight.
-fn weights() {
+fn weights(out: &mut Printer) {
     let litres = 60_000_000;
     let base = 2_295_889_860_000_000;
     let in_litres = all(
@@ -180,59 +180,59 @@ fn weights() {
         asked(3, 100, 99, 0, 0),
         asked(3, 1_000_000, 999_999, 0, 0),
     );
-    gain(false, litres, base, in_litres);
-    gain(true, litres, base, in_litres);
+    gain(out, false, litres, base, in_litres);
+    gain(out, true, litres, base, in_litres);
     let at_base = all(
         asked(4, 100, 9_999_999, 0, 0),
         asked(5, 1_000_000, 99_999_999_999, 0, 0),
         asked(6, 1_000_000, 99_999_999_999, 0, 0),
         asked(6, 1, 99_999, 0, 0),
     );
-    gain(false, litres, base, at_base);
-    gain(true, litres, base, at_base);
+    gain(out, false, litres, base, at_base);
+    gain(out, true, litres, base, at_base);
 }
 
 // More than 2^32 pulses due at once. Two lost counters start from the last number below 2^32; the others come to that number and to 0.
-fn past_the_lost_counter() {
+fn past_the_lost_counter(out: &mut Printer) {
     let x = all(
         asked(6, 1, 0, 0, 4_294_967_295),
         asked(6, 1, 1, 65_535, 4_294_967_295),
         asked(6, 1, 99_999, 65_534, 2_810_905_176),
         asked(6, 1, 2, 65_535, 2_810_905_176),
     );
-    gain(false, 60_000_000, 2_295_889_860_000_000, x);
-    gain(true, 60_000_000, 2_295_889_860_000_000, x);
+    gain(out, false, 60_000_000, 2_295_889_860_000_000, x);
+    gain(out, true, 60_000_000, 2_295_889_860_000_000, x);
 }
 
 // 1,000 litres make no pulse, one, two and four. 65,535 waiting is no loss; one more is.
-fn full_buffers() {
+fn full_buffers(out: &mut Printer) {
     let nearly = all(
         asked(1, 1_000, 0, 65_534, 9),
         asked(3, 500, 0, 65_534, 4_294_967_295),
         asked(1, 1_001, 0, 65_534, 7),
         asked(3, 250, 249, 65_531, 6),
     );
-    gain(false, 1_000, 0, nearly);
+    gain(out, false, 1_000, 0, nearly);
     let full = all(
         asked(1, 1_000, 0, 65_535, 4_294_967_294),
         asked(3, 500, 0, 65_535, 4_294_967_294),
         asked(1, 1_001, 0, 65_535, 7),
         asked(0, 250, 0, 65_535, 6),
     );
-    gain(false, 1_000, 0, full);
+    gain(out, false, 1_000, 0, full);
     let empty = all(
         asked(1, 1, 0, 0, 0),
         asked(3, 1, 0, 1, 0),
         asked(4, 1, 99_999, 0, 0),
         asked(6, 1, 0, 0, 0),
     );
-    gain(false, 65_535, 6_553_500_000, empty);
-    gain(false, 65_536, 6_553_600_000, empty);
-    gain(false, 65_535, 6_553_500_001, empty);
+    gain(out, false, 65_535, 6_553_500_000, empty);
+    gain(out, false, 65_536, 6_553_600_000, empty);
+    gain(out, false, 65_535, 6_553_500_001, empty);
 }
 
 // No whole device asks this: accounts that are far above their weights, gains of 2^64 - 1, a choice and a weight past their ranges, which count nothing.
-fn beyond() {
+fn beyond(out: &mut Printer) {
     let most = 18_446_744_073_709_551_615;
     let x = all(
         asked(3, 1, most, 65_535, 4_294_967_295),
@@ -240,30 +240,30 @@ fn beyond() {
         asked(7, 100, 5, 6, 7),
         asked(3, 1_000_001, 5, 8, 9),
     );
-    gain(false, most, most, x);
+    gain(out, false, most, most, x);
 }
 
 // ---- after a tick
 
-fn ticked(k: u64, n: u64, before: Output, after: Output, emitted: u16) {
-    text(b"output-tick");
-    number(k);
-    number(n);
-    stands(before);
-    gives();
-    stands(after);
-    number(emitted as u64);
-    end();
+fn ticked(out: &mut Printer, k: u64, n: u64, before: Output, after: Output, emitted: u16) {
+    text(out, b"output-tick");
+    number(out, k);
+    number(out, n);
+    stands(out, before);
+    gives(out);
+    stands(out, after);
+    number(out, emitted as u64);
+    end(out);
 }
 
-fn tick(n: u64, x: Four) {
+fn tick(out: &mut Printer, n: u64, x: Four) {
     let r = outputs::after_ticks(held(x), n);
     let after = r.outputs;
     let emitted = r.emitted;
-    ticked(1, n, x.one.output, after[0], emitted[0]);
-    ticked(2, n, x.two.output, after[1], emitted[1]);
-    ticked(3, n, x.three.output, after[2], emitted[2]);
-    ticked(4, n, x.four.output, after[3], emitted[3]);
+    ticked(out, 1, n, x.one.output, after[0], emitted[0]);
+    ticked(out, 2, n, x.two.output, after[1], emitted[1]);
+    ticked(out, 3, n, x.three.output, after[2], emitted[2]);
+    ticked(out, 4, n, x.four.output, after[3], emitted[3]);
 }
 
 // A tick looks at no choice and no weight.
@@ -272,51 +272,57 @@ fn standing(account: u64, waiting: u16, lost: u32) -> Case {
 }
 
 // None, some, and more than waits.
-fn ticks(x: Four) {
-    tick(0, x);
-    tick(1, x);
-    tick(599, x);
-    tick(600, x);
-    tick(65_535, x);
-    tick(65_536, x);
-    tick(18_446_744_073_709_551_615, x);
+fn ticks(out: &mut Printer, x: Four) {
+    tick(out, 0, x);
+    tick(out, 1, x);
+    tick(out, 599, x);
+    tick(out, 600, x);
+    tick(out, 65_535, x);
+    tick(out, 65_536, x);
+    tick(out, 18_446_744_073_709_551_615, x);
 }
 
-fn all_ticks() {
-    ticks(all(
-        standing(11, 0, 5),
-        standing(12, 1, 6),
-        standing(13, 599, 7),
-        standing(14, 65_535, 4_294_967_295),
-    ));
-    ticks(all(
-        standing(0, 601, 4_294_967_295),
-        standing(22, 600, 9),
-        standing(23, 65_534, 8),
-        standing(24, 598, 0),
-    ));
+fn all_ticks(out: &mut Printer) {
+    ticks(
+        out,
+        all(
+            standing(11, 0, 5),
+            standing(12, 1, 6),
+            standing(13, 599, 7),
+            standing(14, 65_535, 4_294_967_295),
+        ),
+    );
+    ticks(
+        out,
+        all(
+            standing(0, 601, 4_294_967_295),
+            standing(22, 600, 9),
+            standing(23, 65_534, 8),
+            standing(24, 598, 0),
+        ),
+    );
 }
 
 // ---- after a commit
 
-fn committed(k: u64, old: Case, new: Case, after: Output) {
-    text(b"output-commit");
-    number(k);
-    rule(old);
-    rule(new);
-    stands(old.output);
-    gives();
-    stands(after);
-    end();
+fn committed(out: &mut Printer, k: u64, old: Case, new: Case, after: Output) {
+    text(out, b"output-commit");
+    number(out, k);
+    rule(out, old);
+    rule(out, new);
+    stands(out, old.output);
+    gives(out);
+    stands(out, after);
+    end(out);
 }
 
 // The outputs are those of the old rules.
-fn commit(old: Four, new: Four) {
+fn commit(out: &mut Printer, old: Four, new: Four) {
     let after = outputs::after_commits(held(old), rules(old), rules(new));
-    committed(1, old.one, new.one, after[0]);
-    committed(2, old.two, new.two, after[1]);
-    committed(3, old.three, new.three, after[2]);
-    committed(4, old.four, new.four, after[3]);
+    committed(out, 1, old.one, new.one, after[0]);
+    committed(out, 2, old.two, new.two, after[1]);
+    committed(out, 3, old.three, new.three, after[2]);
+    committed(out, 4, old.four, new.four, after[3]);
 }
 
 fn ruled(choice: i64, weight: i64) -> Case {
@@ -324,31 +330,36 @@ fn ruled(choice: i64, weight: i64) -> Case {
 }
 
 // The same again; another choice, another weight, both, none; the rule of another output; then off, on, and from one unit to the other.
-fn commits() {
+fn commits(out: &mut Printer) {
     let x = all(
         asked(1, 100, 99, 11, 1),
         asked(4, 200, 19_999_999, 22, 2),
         asked(6, 300, 5, 65_535, 4_294_967_295),
         asked(3, 400, 399, 0, 4),
     );
-    commit(x, x);
+    commit(out, x, x);
     commit(
+        out,
         x,
         all(ruled(2, 100), ruled(4, 201), ruled(5, 299), ruled(3, 400)),
     );
     commit(
+        out,
         x,
         all(ruled(1, 100), ruled(4, 200), ruled(6, 301), ruled(2, 400)),
     );
     commit(
+        out,
         x,
         all(ruled(4, 200), ruled(6, 300), ruled(3, 400), ruled(1, 100)),
     );
     commit(
+        out,
         x,
         all(ruled(0, 100), ruled(0, 200), ruled(6, 300), ruled(3, 1)),
     );
     commit(
+        out,
         x,
         all(ruled(4, 100), ruled(1, 200), ruled(3, 300), ruled(6, 400)),
     );
@@ -359,6 +370,7 @@ fn commits() {
         asked(5, 1, 99_999, 8, 4),
     );
     commit(
+        out,
         off,
         all(
             ruled(0, 100),
@@ -368,6 +380,7 @@ fn commits() {
         ),
     );
     commit(
+        out,
         off,
         all(ruled(1, 100), ruled(0, 201), ruled(2, 300), ruled(0, 1)),
     );
@@ -375,50 +388,56 @@ fn commits() {
 
 // ---- what is shown
 
-fn shown(k: u64, x: Case, s: outputs::Shown) {
-    text(b"output-shown");
-    number(k);
-    rule(x);
-    stands(x.output);
-    gives();
-    number(s.account);
-    number(s.waiting as u64);
-    number(s.lost as u64);
-    end();
+fn shown(out: &mut Printer, k: u64, x: Case, s: outputs::Shown) {
+    text(out, b"output-shown");
+    number(out, k);
+    rule(out, x);
+    stands(out, x.output);
+    gives(out);
+    number(out, s.account);
+    number(out, s.waiting as u64);
+    number(out, s.lost as u64);
+    end(out);
 }
 
-fn show(x: Four) {
+fn show(out: &mut Printer, x: Four) {
     let s = outputs::outputs_shown(held(x), rules(x));
-    shown(1, x.one, s[0]);
-    shown(2, x.two, s[1]);
-    shown(3, x.three, s[2]);
-    shown(4, x.four, s[3]);
+    shown(out, 1, x.one, s[0]);
+    shown(out, 2, x.two, s[1]);
+    shown(out, 3, x.three, s[2]);
+    shown(out, 4, x.four, s[3]);
 }
 
 // A litre counter and one at base conditions, with the same number in their accounts and with the most that a weight leaves.
-fn shows() {
-    show(all(
-        asked(1, 1_000, 999, 1, 5),
-        asked(2, 1_000_000, 999_999, 2, 6),
-        asked(4, 1_000, 999, 3, 7),
-        asked(5, 1_000_000, 99_999_999_999, 4, 8),
-    ));
-    show(all(
-        asked(6, 1, 99_999, 65_535, 4_294_967_295),
-        asked(3, 2, 1, 0, 0),
-        asked(0, 100, 0, 9, 10),
-        asked(6, 100, 6_355_000, 18, 0),
-    ));
+fn shows(out: &mut Printer) {
+    show(
+        out,
+        all(
+            asked(1, 1_000, 999, 1, 5),
+            asked(2, 1_000_000, 999_999, 2, 6),
+            asked(4, 1_000, 999, 3, 7),
+            asked(5, 1_000_000, 99_999_999_999, 4, 8),
+        ),
+    );
+    show(
+        out,
+        all(
+            asked(6, 1, 99_999, 65_535, 4_294_967_295),
+            asked(3, 2, 1, 0, 0),
+            asked(0, 100, 0, 9, 10),
+            asked(6, 100, 6_355_000, 18, 0),
+        ),
+    );
 }
 
-pub fn run() {
-    around_a_weight();
-    many_weights();
-    weights();
-    past_the_lost_counter();
-    full_buffers();
-    beyond();
-    all_ticks();
-    commits();
-    shows();
+pub fn run(out: &mut Printer) {
+    around_a_weight(out);
+    many_weights(out);
+    weights(out);
+    past_the_lost_counter(out);
+    full_buffers(out);
+    beyond(out);
+    all_ticks(out);
+    commits(out);
+    shows(out);
 }

@@ -1,158 +1,158 @@
 // The settings: which values fit, the factory values, the rights, and the pairs in order.
 use print::{
-    LEAST, MOST, end, flag, float, gives, infinity, not_a_number, number, one_above, one_below,
-    pattern, signed, text, trimmed, whole,
+    LEAST, MOST, Printer, end, flag, float, gives, infinity, not_a_number, number, one_above,
+    one_below, pattern, signed, text, trimmed, whole,
 };
 use settings::table::{LOCKS, P_MAX, P_MIN, Row, T_MAX, T_MIN, lock_of, row_of};
 use settings::{Setting, Value};
 
 // A value that does not fit stands in brackets.
-fn asked(place: usize, n: i64) {
+fn asked(out: &mut Printer, place: usize, n: i64) {
     if settings::setting_fits(place, Value::Whole(n)) {
-        signed(n);
+        signed(out, n);
     } else {
-        text(b" (");
-        whole(n);
-        text(b")");
+        text(out, b" (");
+        whole(out, n);
+        text(out, b")");
     }
 }
 
-fn asked_float(place: usize, x: f64) {
+fn asked_float(out: &mut Printer, place: usize, x: f64) {
     if settings::setting_fits(place, Value::Coefficient(x)) {
-        float(x);
+        float(out, x);
     } else {
-        text(b" (");
-        pattern(x);
-        text(b")");
+        text(out, b" (");
+        pattern(out, x);
+        text(out, b")");
     }
 }
 
 // Both ends of the row's range and one past each, between the ends of what a number can be. A coefficient is of the wrong kind.
-fn of_whole(k: usize, r: Row) {
-    asked(k, LEAST);
-    asked(k, one_below(r.lowest));
-    asked(k, r.lowest);
-    asked(k, r.highest);
-    asked(k, one_above(r.highest));
-    asked(k, MOST);
-    asked_float(k, 0.0);
-    asked_float(k, 1.0);
+fn of_whole(out: &mut Printer, k: usize, r: Row) {
+    asked(out, k, LEAST);
+    asked(out, k, one_below(r.lowest));
+    asked(out, k, r.lowest);
+    asked(out, k, r.highest);
+    asked(out, k, one_above(r.highest));
+    asked(out, k, MOST);
+    asked_float(out, k, 0.0);
+    asked_float(out, k, 1.0);
 }
 
 // Any finite float fits. A whole number is of the wrong kind.
-fn of_coefficient(k: usize) {
-    asked_float(k, 0.0);
-    asked_float(k, -0.0);
-    asked_float(k, 1.0);
-    asked_float(k, 1.7976931348623157e308);
-    asked_float(k, -1.7976931348623157e308);
-    asked_float(k, 5e-324);
-    asked_float(k, -5e-324);
-    asked_float(k, infinity());
-    asked_float(k, -infinity());
-    asked_float(k, not_a_number());
-    asked(k, 0);
-    asked(k, 1);
+fn of_coefficient(out: &mut Printer, k: usize) {
+    asked_float(out, k, 0.0);
+    asked_float(out, k, -0.0);
+    asked_float(out, k, 1.0);
+    asked_float(out, k, 1.7976931348623157e308);
+    asked_float(out, k, -1.7976931348623157e308);
+    asked_float(out, k, 5e-324);
+    asked_float(out, k, -5e-324);
+    asked_float(out, k, infinity());
+    asked_float(out, k, -infinity());
+    asked_float(out, k, not_a_number());
+    asked(out, k, 0);
+    asked(out, k, 1);
 }
 
-fn fits(k: usize, r: Row) {
-    asked_of(b"fits", k);
+fn fits(out: &mut Printer, k: usize, r: Row) {
+    asked_of(out, b"fits", k);
     if r.coefficient {
-        of_coefficient(k);
+        of_coefficient(out, k);
     } else {
-        of_whole(k, r);
+        of_whole(out, k, r);
     }
-    end();
+    end(out);
 }
 
 // A question about the setting at a place: its number is one more.
-fn asked_of(question: &[u8], k: usize) {
-    text(question);
-    number(std::num::wrapping_add_u64(k as u64, 1));
-    gives();
+fn asked_of(out: &mut Printer, question: &[u8], k: usize) {
+    text(out, question);
+    number(out, std::num::wrapping_add_u64(k as u64, 1));
+    gives(out);
 }
 
 // What the row says of itself: number, name, unit, lock.
-fn row(k: usize, r: Row) {
+fn row(out: &mut Printer, k: usize, r: Row) {
     let name = r.name;
     let unit = r.unit;
-    asked_of(b"row", k);
-    number(r.number);
-    text(b" ");
-    trimmed(&name);
-    text(b"; ");
-    trimmed(&unit);
-    text(b";");
-    number(r.lock as u64);
-    end();
+    asked_of(out, b"row", k);
+    number(out, r.number);
+    text(out, b" ");
+    trimmed(out, &name);
+    text(out, b"; ");
+    trimmed(out, &unit);
+    text(out, b";");
+    number(out, r.lock as u64);
+    end(out);
 }
 
-fn factory(k: usize) {
-    asked_of(b"factory", k);
+fn factory(out: &mut Printer, k: usize) {
+    asked_of(out, b"factory", k);
     let set = settings::factory(k);
     let value = set.value;
     match value {
-        Value::Whole(n) => signed(n),
-        Value::Coefficient(x) => float(x),
+        Value::Whole(n) => signed(out, n),
+        Value::Coefficient(x) => float(out, x),
     }
-    end();
+    end(out);
 }
 
 // The open locks as three binary digits, the calibration lock first.
-fn right(k: usize, digits: u64) {
+fn right(out: &mut Printer, k: usize, digits: u64) {
     let cal = digits / 4 % 2 == 1;
     let sup = digits / 2 % 2 == 1;
     let cust = digits % 2 == 1;
-    flag(settings::right_for(k, cal, sup, cust));
+    flag(out, settings::right_for(k, cal, sup, cust));
 }
 
-fn with_each_set(k: usize) {
+fn with_each_set(out: &mut Printer, k: usize) {
     for digits in 0..8 {
-        right(k, digits);
+        right(out, k, digits);
     }
 }
 
-fn rights(k: usize) {
-    asked_of(b"rights", k);
-    with_each_set(k);
-    end();
+fn rights(out: &mut Printer, k: usize) {
+    asked_of(out, b"rights", k);
+    with_each_set(out, k);
+    end(out);
 }
 
 // What a lock's row says: number, name, and which of the three locks give its right.
-fn lock(n: u8) {
+fn lock(out: &mut Printer, n: u8) {
     let r = lock_of(n);
     let name = r.name;
-    text(b"lock");
-    number(n as u64);
-    gives();
-    number(r.number as u64);
-    text(b" ");
-    trimmed(&name);
-    flag(r.cal);
-    flag(r.sup);
-    flag(r.cust);
-    end();
+    text(out, b"lock");
+    number(out, n as u64);
+    gives(out);
+    number(out, r.number as u64);
+    text(out, b" ");
+    trimmed(out, &name);
+    flag(out, r.cal);
+    flag(out, r.sup);
+    flag(out, r.cust);
+    end(out);
 }
 
 // There is no lock 0, and none after the last.
-fn every_lock() {
+fn every_lock(out: &mut Printer) {
     for n in 0..LOCKS + 2 {
-        lock(n);
+        lock(out, n);
     }
 }
 
-fn setting(k: usize) {
+fn setting(out: &mut Printer, k: usize) {
     let r = row_of(k);
-    row(k, r);
-    fits(k, r);
-    factory(k);
-    rights(k);
+    row(out, k, r);
+    fits(out, k, r);
+    factory(out, k);
+    rights(out, k);
 }
 
 // After the last row comes what is asked of a setting that does not exist.
-fn every_setting() {
+fn every_setting(out: &mut Printer) {
     for k in 0..settings::COUNT + 1 {
-        setting(k);
+        setting(out, k);
     }
 }
 
@@ -166,38 +166,38 @@ fn with(a: [Setting; settings::COUNT], place: usize, n: i64) -> [Setting; settin
     )
 }
 
-fn pairs(p_min: i64, p_max: i64, t_min: i64, t_max: i64) {
-    text(b"pairs");
-    signed(p_min);
-    signed(p_max);
-    signed(t_min);
-    signed(t_max);
-    gives();
+fn pairs(out: &mut Printer, p_min: i64, p_max: i64, t_min: i64, t_max: i64) {
+    text(out, b"pairs");
+    signed(out, p_min);
+    signed(out, p_max);
+    signed(out, t_min);
+    signed(out, t_max);
+    gives(out);
     let a = with(settings::factory_settings(), P_MIN, p_min);
     let b = with(a, P_MAX, p_max);
     let c = with(b, T_MIN, t_min);
     let d = with(c, T_MAX, t_max);
-    flag(settings::pairs_ordered(d));
-    flag(settings::settings_fit(d));
-    end();
+    flag(out, settings::pairs_ordered(d));
+    flag(out, settings::settings_fit(d));
+    end(out);
 }
 
 // In order, but one below its range.
-fn out_of_range() {
+fn out_of_range(out: &mut Printer) {
     let r = row_of(P_MIN);
-    pairs(one_below(r.lowest), 700_000, -2_000, 6_000);
+    pairs(out, one_below(r.lowest), 700_000, -2_000, 6_000);
 }
 
-pub fn run() {
-    every_lock();
-    every_setting();
-    pairs(90_000, 700_000, -2_000, 6_000);
+pub fn run(out: &mut Printer) {
+    every_lock(out);
+    every_setting(out);
+    pairs(out, 90_000, 700_000, -2_000, 6_000);
     // H12
-    pairs(90_000, 80_000, -2_000, 6_000);
-    pairs(80_000, 80_000, -2_000, 6_000);
-    pairs(90_000, 89_999, -2_000, 6_000);
-    pairs(90_000, 700_000, 6_001, 6_000);
-    pairs(90_000, 700_000, 6_000, 6_000);
-    pairs(90_000, 700_000, -2_000, -2_001);
-    out_of_range();
+    pairs(out, 90_000, 80_000, -2_000, 6_000);
+    pairs(out, 80_000, 80_000, -2_000, 6_000);
+    pairs(out, 90_000, 89_999, -2_000, 6_000);
+    pairs(out, 90_000, 700_000, 6_001, 6_000);
+    pairs(out, 90_000, 700_000, 6_000, 6_000);
+    pairs(out, 90_000, 700_000, -2_000, -2_001);
+    out_of_range(out);
 }

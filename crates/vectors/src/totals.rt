@@ -1,5 +1,5 @@
 // What a cycle leaves on the six counters, the kept totals among them.
-use print::{end, flag, gives, number, text};
+use print::{Printer, end, flag, gives, number, text};
 use state::{Alarms, Counters, Measured};
 use units::{Amounts, BaseUnits, Litres};
 
@@ -14,13 +14,13 @@ fn counters(vm: u64, vmd: u64, vmt: u64, vb: u64, vbd: u64, vbt: u64) -> Counter
     }
 }
 
-fn six(c: Counters) {
-    number(c.vm.0);
-    number(c.vmd.0);
-    number(c.vmt.0);
-    number(c.vb.0);
-    number(c.vbd.0);
-    number(c.vbt.0);
+fn six(out: &mut Printer, c: Counters) {
+    number(out, c.vm.0);
+    number(out, c.vmd.0);
+    number(out, c.vmt.0);
+    number(out, c.vb.0);
+    number(out, c.vbd.0);
+    number(out, c.vbt.0);
 }
 
 // The pressure alarm, or none.
@@ -32,13 +32,13 @@ fn alarms(p: bool) -> Alarms {
     }
 }
 
-fn counts(c: Counters, alarm: bool, litres: u64, base: u64) {
-    text(b"counts");
-    six(c);
-    flag(alarm);
-    number(litres);
-    number(base);
-    gives();
+fn counts(out: &mut Printer, c: Counters, alarm: bool, litres: u64, base: u64) {
+    text(out, b"counts");
+    six(out, c);
+    flag(out, alarm);
+    number(out, litres);
+    number(out, base);
+    gives(out);
     let before = Measured {
         time: 0,
         month: 0,
@@ -47,8 +47,8 @@ fn counts(c: Counters, alarm: bool, litres: u64, base: u64) {
     };
     let amounts = Amounts::Counted(Litres(litres), BaseUnits(base));
     let after = measuring::measured_by(before, 0, alarms(alarm), amounts);
-    six(after.counters);
-    end();
+    six(out, after.counters);
+    end(out);
 }
 
 // VmT is 100 litres short of its rollover, and neither part is near it.
@@ -75,23 +75,23 @@ fn all_six(n: u64) -> Counters {
     counters(n, n, n, n, n, n)
 }
 
-pub fn run() {
+pub fn run(out: &mut Printer) {
     let most = 18_446_744_073_709_551_615;
     let nothing = counters(0, 0, 0, 0, 0, 0);
-    counts(nothing, false, 1_000, 186_355_000);
-    counts(nothing, true, 1_000, 93_178_000);
+    counts(out, nothing, false, 1_000, 186_355_000);
+    counts(out, nothing, true, 1_000, 93_178_000);
     let some = counters(1_000, 500, 1_500, 7, 8, 15);
-    counts(some, false, 60_000_000, 99_999_999_999_999_999);
-    counts(before_vmt(), false, 100, 18_635_500);
-    counts(before_vmt(), true, 100, 9_317_800);
-    counts(before_vmt(), false, 99, 1);
-    counts(before_vbt(), false, 100, 18_635_500);
-    counts(before_vbt(), true, 100, 18_635_500);
-    counts(before_vbt(), true, 100, 18_635_499);
-    counts(at_the_end(), false, 100, 18_635_500);
-    counts(at_the_end(), true, 100, 18_635_500);
+    counts(out, some, false, 60_000_000, 99_999_999_999_999_999);
+    counts(out, before_vmt(), false, 100, 18_635_500);
+    counts(out, before_vmt(), true, 100, 9_317_800);
+    counts(out, before_vmt(), false, 99, 1);
+    counts(out, before_vbt(), false, 100, 18_635_500);
+    counts(out, before_vbt(), true, 100, 18_635_500);
+    counts(out, before_vbt(), true, 100, 18_635_499);
+    counts(out, at_the_end(), false, 100, 18_635_500);
+    counts(out, at_the_end(), true, 100, 18_635_500);
     // Totals that are not main plus disturbed: each gains for itself.
-    counts(counters(1, 2, 4, 3, 4, 8), true, 0, 0);
-    counts(all_six(most), false, most, most);
-    counts(all_six(most), true, most, most);
+    counts(out, counters(1, 2, 4, 3, 4, 8), true, 0, 0);
+    counts(out, all_six(most), false, most, most);
+    counts(out, all_six(most), true, most, most);
 }

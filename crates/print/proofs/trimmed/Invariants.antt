@@ -1,3 +1,4 @@
+-- Each turn takes one byte off.
 use Rattle.std.proofs.Common.{◌≤◌, length}
 use Rattle.print.proofs.trimmed.Given as goal
 
