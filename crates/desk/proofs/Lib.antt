@@ -1,4 +1,3 @@
--- The types that walks hand over; the laws of a block.
+-- The laws of a block; no freedom.
 pub mod Fixed
 pub mod Laws
-pub mod Types

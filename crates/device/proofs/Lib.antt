@@ -1,3 +1,2 @@
--- The types that walks hand over; and that each way through the code does what its command's definition says.
-pub mod Types
+-- Each way through the code does what its command's definition says.
 pub mod Ways

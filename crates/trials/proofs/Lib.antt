@@ -1,4 +1,2 @@
--- The types that walks hand over, and the laws of a part of an array that is lent.
-pub mod Front
+-- The laws of a part of an array that is lent.
 pub mod Laws
-pub mod Types
