@@ -1,6 +1,6 @@
 -- A line read as an entry. Its first word and how many words it has say which entry; the other words are numbers, readings or a value. Any other line is unknown.
 -- Assumes nothing.
-use Rattle.std.specs.Prelude.{ℕ, Bool, cond, ◌||◌, List, [], ◌∷◌, ltb, eqb, length, get_or}
+use Rattle.std.specs.Prelude.{ℕ, Bool, cond, ◌||◌, List, ltb, eqb, length, get_or}
 use Prim.Native.Char.{code as byte}
 use Rattle.settings.specs.declared.Value.{Value}
 use Rattle.commands.specs.declared.Brought.{Brought}

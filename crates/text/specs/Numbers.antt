@@ -1,6 +1,6 @@
 -- A word read as a number, a reading or a value.
 -- Assumes nothing.
-use Rattle.std.specs.Prelude.{ℕ, zero, suc, ◌+◌, ◌-◌, ◌*◌, Bool, true, false, cond, ◌&&◌, List, ltb, leb, eqb, length, get_or, drop, ℤ, pos, neg_ℤ}
+use Rattle.std.specs.Prelude.{ℕ, Bool, true, false, cond, ◌&&◌, List, ltb, leb, eqb, length, get_or, drop, ℤ, pos, neg_ℤ}
 use Prim.Native.Char.{code as byte}
 use Rattle.std.specs.Float.Ieee.{of_bits}
 use Rattle.std.specs.Float.{binary64}

@@ -1,6 +1,6 @@
 -- A line and its words. Words are separated by single spaces, so a double space, or one at either end, makes an empty word.
 -- Assumes nothing.
-use Rattle.std.specs.Prelude.{ℕ, zero, suc, ◌+◌, ◌-◌, ◌≤◌, ◌≡◌, Bool, true, false, cond, ◌&&◌, List, [], ◌∷◌, ltb, eqb, length, take, drop}
+use Rattle.std.specs.Prelude.{ℕ, zero, suc, ◌+◌, ◌-◌, ◌≤◌, ◌≡◌, Bool, cond, List, [], ◌∷◌, ltb, eqb, length, take, drop}
 use Prim.Native.Char.{code as byte}
 
 abbrev pub space : ℕ

@@ -27,7 +27,7 @@ fn put_byte(out: &mut [u8], at: usize, b: u8) -> usize
 }
 
 // How many decimal digits a number has.
-#[tactic(auto, using(crate::proofs::Puts::places_end, crate::proofs::Puts::places_stop, crate::proofs::Puts::places_on), unfolding(crate::specs::Echoes::places))]
+#[tactic(auto, using(crate::proofs::Puts::places_stop), unfolding(crate::specs::Echoes::places))]
 fn places_of(n: u64) -> usize
     ensures { result ≡ places n }
 {
@@ -44,7 +44,6 @@ fn places_of(n: u64) -> usize
 }
 
 // Puts the last k digits of a number.
-#[tactic(auto, using(spelling::proofs::Spelled::within, spelling::proofs::Lent::digits_at))]
 fn put_digits(out: &mut [u8], at: usize, base: u64, k: usize, n: u64) -> usize
     requires { (at + k ≤ length out.old) × ((1 < base) × (base ≤ 16)) }
     ensures { Put k out.old out.new at result (digits base k n) }
@@ -65,7 +64,6 @@ fn put_decimal(out: &mut [u8], at: usize, n: u64) -> usize
 
 // ---- words, each after a space
 
-#[tactic(auto, using(spelling::proofs::Puts::two))]
 fn put_number(out: &mut [u8], at: usize, n: u64) -> usize
     requires { at + 21 ≤ length out.old }
     ensures { Put 21 out.old out.new at result (spaced (decimal n)) }
@@ -102,7 +100,7 @@ fn magnitude(n: i64) -> u64
     n as u64
 }
 
-#[tactic(auto, using(spelling::proofs::Puts::two, spelling::proofs::Puts::looser, spelling::proofs::Puts::retext, crate::proofs::Puts::places_most, crate::proofs::Puts::below_zero_lem, crate::proofs::Puts::not_below), unfolding(crate::specs::Echoes::decimal))]
+#[tactic(auto, using(spelling::proofs::Puts::looser, spelling::proofs::Puts::retext, crate::proofs::Puts::places_most, crate::proofs::Puts::not_below))]
 fn put_signed(out: &mut [u8], at: usize, n: i64) -> usize
     requires { at + 22 ≤ length out.old }
     ensures { Put 22 out.old out.new at result (spaced (signed n)) }
@@ -129,7 +127,6 @@ fn bits_of(f: f64) -> u64
     0
 }
 
-#[tactic(auto, using(spelling::proofs::Puts::two, spelling::proofs::Puts::retext, crate::proofs::Puts::whole_text, crate::proofs::Puts::coefficient_text))]
 fn put_value(out: &mut [u8], at: usize, v: settings::Value) -> usize
     requires { at + 24 ≤ length out.old }
     ensures { Put 24 out.old out.new at result (joined (value_words v)) }
@@ -149,7 +146,6 @@ fn put_value(out: &mut [u8], at: usize, v: settings::Value) -> usize
     }
 }
 
-#[tactic(auto, using(crate::proofs::Puts::word, crate::proofs::Puts::rows), unfolding(crate::specs::Echoes::flag_words))]
 fn put_three(out: &mut [u8], at: usize, a: bool, b: bool, c: bool) -> usize
     requires { at + 6 ≤ length out.old }
     ensures { Put 6 out.old out.new at result (joined (flag_words a b c)) }
@@ -159,7 +155,6 @@ fn put_three(out: &mut [u8], at: usize, a: bool, b: bool, c: bool) -> usize
     put_flag(out, third, c)
 }
 
-#[tactic(auto, using(crate::proofs::Puts::word, crate::proofs::Puts::rows), unfolding(crate::specs::Echoes::number_words))]
 fn put_four(out: &mut [u8], at: usize, a: u64, b: u64, c: u64, d: u64) -> usize
     requires { at + 84 ≤ length out.old }
     ensures { Put 84 out.old out.new at result (joined (number_words a b c d)) }
@@ -172,7 +167,6 @@ fn put_four(out: &mut [u8], at: usize, a: u64, b: u64, c: u64, d: u64) -> usize
 
 // ---- the words of each kind of line
 
-#[tactic(auto, using(crate::proofs::Puts::word, crate::proofs::Puts::rows), unfolding(crate::specs::Echoes::archive_words))]
 fn put_archive(out: &mut [u8], at: usize, l: books::ArchiveLine) -> usize
     requires { at + 105 ≤ length out.old }
     ensures { Put 105 out.old out.new at result (joined (archive_words l)) }
@@ -185,7 +179,6 @@ fn put_archive(out: &mut [u8], at: usize, l: books::ArchiveLine) -> usize
     put_four(out, next, vm.0, vmd.0, vb.0, vbd.0)
 }
 
-#[tactic(auto, using(crate::proofs::Puts::word, crate::proofs::Puts::rows), unfolding(crate::specs::Echoes::log_words))]
 fn put_log(out: &mut [u8], at: usize, l: books::LogLine) -> usize
     requires { at + 63 ≤ length out.old }
     ensures { Put 63 out.old out.new at result (joined (log_words l)) }
@@ -195,7 +188,6 @@ fn put_log(out: &mut [u8], at: usize, l: books::LogLine) -> usize
     put_number(out, third, l.code)
 }
 
-#[tactic(auto, using(crate::proofs::Puts::rows), unfolding(crate::specs::Echoes::audit_words))]
 fn put_audit(out: &mut [u8], at: usize, l: books::AuditLine) -> usize
     requires { at + 132 ≤ length out.old }
     ensures { Put 132 out.old out.new at result (joined (audit_words l)) }
@@ -219,7 +211,6 @@ fn put_counts(out: &mut [u8], at: usize, c: state::Counters) -> usize
     put_four(out, at, vm.0, vmd.0, vb.0, vbd.0)
 }
 
-#[tactic(auto, using(crate::proofs::Puts::rows), unfolding(crate::specs::Echoes::lamp_words))]
 fn put_lamps(out: &mut [u8], at: usize, alarms: state::Alarms, latches: state::Alarms) -> usize
     requires { at + 12 ≤ length out.old }
     ensures { Put 12 out.old out.new at result (joined (lamp_words alarms latches)) }
@@ -228,7 +219,6 @@ fn put_lamps(out: &mut [u8], at: usize, alarms: state::Alarms, latches: state::A
     put_three(out, next, latches.p, latches.t, latches.k)
 }
 
-#[tactic(auto, using(crate::proofs::Puts::word, crate::proofs::Puts::rows), unfolding(crate::specs::Echoes::moment_words))]
 fn put_moment(out: &mut [u8], at: usize, m: state::Moment) -> usize
     requires { at + 165 ≤ length out.old }
     ensures { Put 165 out.old out.new at result (joined (moment_words m)) }
@@ -261,7 +251,6 @@ fn put_emitted(out: &mut [u8], at: usize, e: outputs::Emitted) -> usize
     )
 }
 
-#[tactic(auto, using(crate::proofs::Puts::word, crate::proofs::Puts::rows), unfolding(crate::specs::Echoes::output_words))]
 fn put_output(out: &mut [u8], at: usize, x: outputs::Shown) -> usize
     requires { at + 63 ≤ length out.old }
     ensures { Put 63 out.old out.new at result (joined (output_words x)) }
@@ -271,7 +260,6 @@ fn put_output(out: &mut [u8], at: usize, x: outputs::Shown) -> usize
     put_number(out, third, x.lost as u64)
 }
 
-#[tactic(auto, using(crate::proofs::Puts::rows), unfolding(crate::specs::Echoes::outputs_words))]
 fn put_outputs(out: &mut [u8], at: usize, all: outputs::AllShown) -> usize
     requires { at + 252 ≤ length out.old }
     ensures { Put 252 out.old out.new at result (joined (outputs_words all)) }
@@ -294,7 +282,7 @@ fn put_pair(out: &mut [u8], at: usize, b: u8) -> usize
 }
 
 // Two digits a byte.
-#[tactic(auto, using(crate::proofs::Puts::no_byte, crate::proofs::Puts::byte_more, crate::proofs::Puts::all_bytes))]
+#[tactic(auto, using(crate::proofs::Puts::all_bytes))]
 fn put_hex(out: &mut [u8], at: usize, part: &[u8]) -> usize
     requires { at + length part.now * 2 ≤ length out.old }
     ensures { Put (length part.now * 2) out.old out.new at result (hexed part.now) }
@@ -326,7 +314,7 @@ fn lent_buffer() -> [u8; MOST_LENT]
 }
 
 // The whole buffer, with the message in it.
-#[tactic(auto, using(spelling::proofs::Puts::two, spelling::proofs::Puts::retext, crate::proofs::Puts::word, crate::proofs::Lent::few, crate::proofs::Lent::lent_length, crate::proofs::Lent::front_length, crate::proofs::Lent::within, crate::proofs::Lent::shown), unfolding(crate::specs::Echoes::readout_words))]
+#[tactic(auto, using(crate::proofs::Lent::few, crate::proofs::Lent::front_length, crate::proofs::Lent::within))]
 fn put_readout(out: &mut [u8], at: usize, x: Readout) -> usize
     requires { at + 401 ≤ length out.old }
     ensures { Put 401 out.old out.new at result (joined (readout_words x)) }
@@ -340,7 +328,6 @@ fn put_readout(out: &mut [u8], at: usize, x: Readout) -> usize
 }
 
 // The newest line with a code, or `-`; then how many lines were looked at.
-#[tactic(auto, using(spelling::proofs::Puts::two, spelling::proofs::Puts::looser, spelling::proofs::Puts::retext, crate::proofs::Puts::word, crate::proofs::Puts::rows, crate::proofs::Puts::newest_text, crate::proofs::Puts::none_held_text))]
 fn put_last(out: &mut [u8], at: usize, x: Last) -> usize
     requires { at + 84 ≤ length out.old }
     ensures { Put 84 out.old out.new at result (joined (last_words x)) }
@@ -360,7 +347,6 @@ fn put_last(out: &mut [u8], at: usize, x: Last) -> usize
 
 // ---- a message that was read
 
-#[tactic(auto, using(spelling::proofs::Lent::text_at))]
 fn put_text(out: &mut [u8], at: usize, text: &[u8]) -> usize
     requires { at + length text.now ≤ length out.old }
     ensures { Put (length text.now) out.old out.new at result text.now }
@@ -371,7 +357,6 @@ fn put_text(out: &mut [u8], at: usize, text: &[u8]) -> usize
 }
 
 // The values behind the first.
-#[tactic(auto, using(crate::proofs::Puts::word, crate::proofs::Puts::rows), unfolding(crate::specs::Echoes::other_words))]
 fn put_others(out: &mut [u8], at: usize, v: Values) -> usize
     requires { at + 105 ≤ length out.old }
     ensures { Put 105 out.old out.new at result (joined (other_words v)) }
@@ -380,7 +365,6 @@ fn put_others(out: &mut [u8], at: usize, v: Values) -> usize
     put_number(out, next, v.vmt)
 }
 
-#[tactic(auto, using(spelling::proofs::Puts::two, spelling::proofs::Puts::looser, spelling::proofs::Puts::retext, crate::proofs::Puts::accepted_line, crate::proofs::Puts::refused_line))]
 fn parsed_line(out: &mut [u8], at: usize, p: Parsed) -> usize
     requires { at + 422 ≤ length out.old }
     ensures { Put 422 out.old out.new at result (parsed_text p) }
@@ -399,7 +383,6 @@ fn parsed_line(out: &mut [u8], at: usize, p: Parsed) -> usize
     }
 }
 
-#[tactic(auto, using(spelling::proofs::Puts::two, spelling::proofs::Puts::looser, spelling::proofs::Puts::retext, crate::proofs::Puts::accepted_office, crate::proofs::Puts::refused_office))]
 fn office_text(out: &mut [u8], p: Parsed) -> usize
     requires { 422 ≤ length out.old }
     ensures { Put 422 out.old out.new 0 result (office_text p) }
@@ -450,7 +433,6 @@ fn put_given(out: &mut [u8], at: usize, g: Given) -> usize
     }
 }
 
-#[tactic(auto, using(spelling::proofs::Puts::two), unfolding(crate::specs::Echoes::said_text))]
 fn said_line(out: &mut [u8], at: usize, reply: Reply) -> usize
     requires { at + 422 ≤ length out.old }
     ensures { Put 422 out.old out.new at result (said_text reply) }
@@ -472,7 +454,6 @@ fn unknown_line(out: &mut [u8], at: usize) -> usize
 }
 
 // Puts nothing if there is less than ROOM left.
-#[tactic(auto, using(spelling::proofs::Puts::retext, spelling::proofs::Puts::nothing_put, crate::proofs::Puts::little_room, crate::proofs::Puts::room_for), unfolding(crate::specs::Echoes::echo_text))]
 pub fn echo_line(out: &mut [u8], at: usize, echo: Echo) -> usize
     ensures { Put 422 out.old out.new at result (text_for out.old at echo) }
 {

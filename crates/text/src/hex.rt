@@ -17,7 +17,7 @@ const BASE: u64 = 16;
 // Room for the bytes of the longest word.
 const MOST: usize = LONGEST / 2;
 
-#[tactic(auto, using(crate::proofs::Digits::no_digit_at, crate::proofs::Digits::digit_at_lem, crate::proofs::Digits::not_all), unfolding(ground::specs::Below::all_below))]
+#[tactic(auto, using(crate::proofs::Digits::digit_at_lem), unfolding(ground::specs::Below::all_below))]
 fn all_digits(w: &[u8]) -> bool
     ensures { result ≡ all_below (digit_at 16 w.now) (length w.now) }
 {
@@ -51,7 +51,7 @@ fn byte_of(a: u8, b: u8) -> u8
 }
 
 // Puts the bytes at the front.
-#[tactic(auto, using(spelling::proofs::Spelled::rest_stays, crate::proofs::Unhexed::each_digit, crate::proofs::Unhexed::none_put, crate::proofs::Unhexed::byte_put, crate::proofs::Unhexed::all_put))]
+#[tactic(auto, using(crate::proofs::Unhexed::each_digit, crate::proofs::Unhexed::all_put))]
 fn unhex(w: &[u8], out: &mut [u8])
     requires { (all_below (digit_at 16 w.now) (length w.now) ≡ true) × (length w.now / 2 ≤ length out.old) }
     ensures { out.new ≡ unhexed w.now ++ drop (length w.now / 2) out.old }

@@ -55,7 +55,7 @@ const INFINITE: u64 = 0x7ff0_0000_0000_0000;
 // The weight of an f64's sign bit.
 const SIGN: u64 = 0x8000_0000_0000_0000;
 
-#[tactic(auto, using(spelling::proofs::Spells::one_more, crate::proofs::Digits::empty, crate::proofs::Digits::fits, crate::proofs::Digits::over, crate::proofs::Digits::no_digit, crate::proofs::Digits::no_digit_at, crate::proofs::Digits::digit_at_lem, crate::proofs::Digits::too_much, crate::proofs::Digits::is_number_lem), unfolding(ground::specs::Below::all_below, spelling::specs::Spelling::spelled))]
+#[tactic(auto, using(spelling::proofs::Spells::one_more, crate::proofs::Digits::empty, crate::proofs::Digits::fits, crate::proofs::Digits::digit_at_lem), unfolding(ground::specs::Below::all_below, spelling::specs::Spelling::spelled))]
 fn number_in(base: u64, w: &[u8]) -> Number
     requires { (0 < base) × (base ≤ 16) }
     ensures { result ≡ number_in base w.now }

@@ -9,7 +9,7 @@ pub const LINE_FEED: u8 = b'\n';
 pub const LONGEST: usize = 500;
 
 // How many bytes come before the first b; all of them if there is no b.
-#[tactic(auto, using(crate::proofs::Bytes::stops, crate::proofs::Bytes::passes, crate::proofs::Bytes::at_end))]
+#[tactic(auto, using(crate::proofs::Bytes::stops, crate::proofs::Bytes::passes))]
 pub fn first_of(s: &[u8], b: u8) -> usize
     ensures { result ≡ first_of b s.now }
 {
@@ -64,7 +64,7 @@ fn kept_of(n: usize) -> usize
 }
 
 // Moves the bytes from `from` up to `to` to the front, but at most KEPT of them, and answers how many.
-#[tactic(auto, using(crate::proofs::Bytes::too_short, crate::proofs::Bytes::none_left, crate::proofs::Bytes::kept_few, crate::proofs::Bytes::moved_on, crate::proofs::Bytes::rest_stays, crate::proofs::Bytes::all_moved))]
+#[tactic(auto, using(crate::proofs::Bytes::too_short, crate::proofs::Bytes::none_left, crate::proofs::Bytes::kept_few, crate::proofs::Bytes::all_moved))]
 pub fn keep(input: &mut [u8], from: usize, to: usize) -> usize
     ensures { Kept input.old input.new from to result }
 {

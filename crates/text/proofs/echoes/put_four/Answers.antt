@@ -1,0 +1,10 @@
+use Rattle.std.proofs.Common.{arith}
+use Rattle.text.specs.Echoes.{number_words}
+use Rattle.text.proofs.Puts.{word, rows}
+use Rattle.text.proofs.echoes.put_four.Goals as goal
+
+pub returns : goal.returns
+unfolding number_words
+returns c =
+    rows _ _ 84 (omega arith) (word c.put_number-second.ensures)
+    (rows _ _ 63 (omega arith) (word c.put_number-third.ensures) (rows _ _ 42 (omega arith) (word c.put_number-fourth.ensures) (word c.put_number.ensures)))
