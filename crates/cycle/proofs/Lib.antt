@@ -3,4 +3,3 @@ pub mod Exact
 pub mod Fixed
 pub mod Join
 pub mod Laws
-pub mod Types

@@ -4,4 +4,3 @@ pub mod Fixed
 pub mod Kept
 pub mod Laws
 pub mod Stays
-pub mod Types

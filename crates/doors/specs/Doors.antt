@@ -1,24 +1,19 @@
 -- Two doors and their sessions. Document 01, "Doors, sessions, locks", and the fault card; document 02, Three.
 -- Assumes nothing.
-use Rattle.std.specs.Prelude.{ℕ, zero, suc, ◌+◌, ◌-◌, Bool, true, not, cond, ◌&&◌, ◌||◌, List, [], ◌∷◌, ◌++◌, length, get_or, set, replicate, ltb, eqb}
-use Rattle.ground.specs.Below.{any_below}
+use Rattle.std.specs.Prelude.{ℕ, ◌-◌, Bool, not, cond, ◌&&◌, ◌||◌, List, [], ◌∷◌, length, ltb, eqb}
 use Rattle.settings.specs.declared.Value.{Value}
-use Rattle.settings.specs.declared.Setting.{Setting}
-use Rattle.settings.specs.Settings.{setting_count, no_setting, fits_b, ordered_b, right_b}
+use Rattle.settings.specs.Settings.{setting_count, fits_b, ordered_b}
 use Rattle.outputs.specs.Four.{rule_at, all_committed}
-use Rattle.ring.specs.declared.Book.{Book}
 use Rattle.ring.specs.Ring.{audit_lines, advanced_book}
 use Rattle.books.specs.declared.AuditLine.{AuditLine}
 use Rattle.books.specs.Books.{no_audit}
-use Rattle.state.specs.declared.Locks.{Locks}
 use Rattle.state.specs.declared.Cell.{Cell}
 use Rattle.state.specs.declared.Session.{Session}
 use Rattle.state.specs.declared.Core.{Core}
 use Rattle.state.specs.declared.State.{State}
-use Rattle.state.specs.State.{blank_cell, no_session, whole_b}
+use Rattle.state.specs.State.{no_session, whole_b}
 use Rattle.state.specs.Card.{first_of}
 use Rattle.ring.specs.Store.{written}
-use Rattle.notes.specs.Notes.{keep, numbered}
 use Rattle.commands.specs.declared.Given.TheVariants as given
 use Rattle.commands.specs.declared.Reply.{Reply}
 use Rattle.commands.specs.declared.Answer.{Answer}
