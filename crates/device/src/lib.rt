@@ -274,7 +274,6 @@ fn by_value(s: State, sound: bool, c: Command, seen: Reply) -> Answer
 }
 
 // One command. `reply` is what `seen` gave for it.
-#[tactic(auto, using(crate::proofs::Ways::cycle_way, crate::proofs::Ways::turn_way, crate::proofs::Ways::commit_way, crate::proofs::Ways::rest_way))]
 pub fn answer(
     s: State,
     sound: bool,
