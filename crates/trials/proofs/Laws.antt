@@ -1,9 +1,10 @@
--- Lending more lines than there are is lending all of them.
+-- Lending more lines than there are is lending all of them; and what was lent comes back in front of the rest.
 -- Assumes nothing.
 use mathlib.Core.Path.{◌≡◌, refl, sym, ap, ◌∙◌, subst}
 use Prim.Native.Nat.{ℕ, zero, suc, min}
 use native.Mathlib.Nat.{zero-min, suc-min-suc}
-use mathlib.Core.List.{List, [], ◌∷◌}
+use mathlib.Core.Bool.{Bool}
+use mathlib.Core.List.{List, [], ◌∷◌, ◌++◌}
 use lib.ListN.{length, take, drop}
 use lib.Seq.{take-nil, drop-nil}
 use Rattle.books.specs.declared.ArchiveLine.{ArchiveLine}
@@ -11,12 +12,14 @@ use Rattle.books.specs.declared.LogLine.{LogLine}
 use Rattle.books.specs.declared.AuditLine.{AuditLine}
 use Rattle.state.specs.declared.State.{State}
 use Rattle.commands.specs.declared.Command.{Command}
+use Rattle.state.specs.State.{whole_b}
 use Rattle.commands.specs.declared.Reply.{Reply}
+use Rattle.commands.specs.declared.Answer.{Answer}
 use Rattle.commands.specs.Answers.{World}
 use Rattle.steps.specs.Step.{step}
-use Rattle.device.specs.Plan.{world_of, seen_of, turn_of}
+use Rattle.device.specs.Plan.{world_of, seen_of, turn_of, answer_in}
 use Rattle.device.proofs.Ways.{turn_is_step}
-use Rattle.trials.specs.Lend.{turned, with_rest, lent_of, lent_by}
+use Rattle.trials.specs.Lend.{the_lent, turned, with_rest, lent_of, lent_by}
 
 module _ {A : Type 0} where
   take_all_there : (m : ℕ) (xs : List A) → take (min m (length xs)) xs ≡ take m xs
@@ -48,3 +51,16 @@ all_there s c archive log audit months events changes one two three =
     ∙ parted (λ l l'. with_rest (turned s c (take months archive) l (take (min changes 201) audit)) (drop months archive) l' (drop (min changes 201) audit)) 251 events log two
     ∙ parted (λ u u'. with_rest (turned s c (take months archive) (take events log) u) (drop months archive) (drop events log) u') 201 changes audit three
     ∙ ap (λ (t : World × Reply). with_rest t (drop months archive) (drop events log) (drop changes audit)) (step_is s c (take months archive) (take events log) (take changes audit))
+
+-- what was lent comes back in front of the rest
+pub lent_back : (s : State) (c : Command) (archive archive' : List ArchiveLine) (log log' : List LogLine) (audit audit' : List AuditLine) (months events changes m e h : ℕ) (sound : Bool) (r : Reply) (a : Answer)
+    → length archive ≡ 16 → length log ≡ 251 → length audit ≡ 201 → m ≡ min months 16 → e ≡ min events 251 → h ≡ min changes 201
+    → sound ≡ whole_b s → r ≡ seen_of sound s c (take m archive) (take e log) (take h audit)
+    → a ≡ answer_in (turn_of sound s c r (take m archive) (take e log) (take h audit))
+    → archive' ≡ (turn_of sound s c r (take m archive) (take e log) (take h audit)).0.archive
+    → log' ≡ (turn_of sound s c r (take m archive) (take e log) (take h audit)).0.log
+    → audit' ≡ (turn_of sound s c r (take m archive) (take e log) (take h audit)).0.audit
+    → the_lent a (archive' ++ drop m archive) (log' ++ drop e log) (audit' ++ drop h audit) ≡ lent_of s c archive log audit months events changes
+unfolding lent_by
+lent_back s c archive archive' log log' audit audit' months events changes m e h sound r a one two three p q t w f g i j k =
+    rw (g, i, j, k, f, w, p, q, t) (all_there s c archive log audit months events changes one two three)

@@ -45,7 +45,6 @@ fn at_most(n: usize, most: usize) -> usize
 }
 
 // If a number is larger than its array, the whole array is lent.
-#[tactic(auto, using(crate::proofs::Front::rest_row, crate::proofs::Front::front_length, crate::proofs::Front::lends_front, crate::proofs::Front::shares_front, crate::proofs::Front::front_joins), unfolding(crate::specs::Lend::lent_by))]
 pub fn put(
     s: State,
     c: Command,

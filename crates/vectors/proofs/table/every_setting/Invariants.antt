@@ -1,6 +1,0 @@
-use Rattle.std.proofs.Common.{◌+◌, ◌-◌, ◌≤◌}
-use Rattle.settings.specs.Settings.{setting_count}
-use Rattle.vectors.proofs.table.every_setting.Given as goal
-
-abbrev pub invariant-loop-k : goal.invariant-loop-k
-invariant-loop-k l = l.k ≤ (setting_count + 1)

@@ -1,5 +1,0 @@
-use Rattle.std.proofs.Common.{◌-◌, ◌≤◌}
-use Rattle.vectors.proofs.table.with_each_set.Given as goal
-
-abbrev pub invariant-loop-digits : goal.invariant-loop-digits
-invariant-loop-digits l = l.digits ≤ 8
