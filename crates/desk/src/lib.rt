@@ -250,7 +250,7 @@ fn in_block(count: usize) -> usize
 }
 
 // Puts the first `count` lines of a block to the desk, one after another. Whether the state is whole is tested once for all of them.
-#[tactic(auto, unfolding(crate::specs::Plan::after, crate::specs::Plan::desk_after, crate::specs::Plan::seen_on, crate::specs::Plan::turn_on, crate::specs::Plan::sound_after, crate::specs::Plan::responses_up_to, crate::specs::Plan::response_on))]
+#[tactic(auto, using(crate::proofs::Laws::served_after), unfolding(crate::specs::Plan::after, crate::specs::Plan::desk_after, crate::specs::Plan::seen_on, crate::specs::Plan::turn_on, crate::specs::Plan::sound_after, crate::specs::Plan::responses_up_to, crate::specs::Plan::response_on))]
 pub fn serve(d: Desk, inputs: [Input; BLOCK], count: usize) -> Served
     ensures { result ≡ served d inputs count }
 {
