@@ -379,14 +379,14 @@ abbrev pub one_of_each : List Step
 one_of_each =
     a_cycle 60 1 202650
     ∷ Turn (Open 1 0) ∷ Turn (Shut 1) ∷ Clear ∷ Tick 601
-    ∷ Ask question.Report ∷ Ask question.Outputs ∷ Ask (question.Readout 156) ∷ Ask (question.Readout 155) ∷ Ask (question.Archive 0) ∷ Ask (question.Log 0) ∷ Ask (question.Audit 0) ∷ Ask (question.Last 0)
+    ∷ Ask question.Report ∷ Ask question.Outputs ∷ Ask (question.Readout 156) ∷ Ask (question.Readout 155) ∷ Ask (question.Archive 0) ∷ Ask (question.Log 0) ∷ Ask (question.Audit 0)
     ∷ Call 1 Begin ∷ Call 1 (Read 1) ∷ Call 1 (Write 1 (Whole (pos 1))) ∷ Call 1 Abandon
     ∷ Commit 1
     ∷ []
 
 -- each of them is refused with 1
 abbrev pub one_each : List ℕ
-one_each = replicate 18 1
+one_each = replicate 17 1
 
 -- ---- the table
 
@@ -643,6 +643,16 @@ rows_of_seven =
     ∷ row (Request 7) (last_case (device_logged 8) (take 249 blank_log) (when_last 11 ∷ []) (1 ∷ []) [])
     ∷ row (Request 7) (last_case (device_logged 8) (replicate 251 no_log) (when_last 11 ∷ []) (1 ∷ []) [])
     ∷ row (Request 7) (last_case (device_at (counts 1 0 0 0 0 0)) blank_log (when_last 11 ∷ []) (1 ∷ []) [])
+    -- and each of the other states that are not whole
+    ∷ row (Request 7) (run_case (device_at (counts 1000 500 1501 0 0 0)) (when_last 0 ∷ []) (1 ∷ []))
+    ∷ row (Request 7) (run_case (device_at (counts 0 0 0 1000 500 1499)) (when_last 0 ∷ []) (1 ∷ []))
+    ∷ row (Request 7) (run_case (device_at (counts 600000000000 400000000000 1000000000000 0 0 0)) (when_last 0 ∷ []) (1 ∷ []))
+    ∷ row (Request 7) (run_case (device_in 21599 1199) (when_last 0 ∷ []) (1 ∷ []))
+    ∷ row (Request 7) (run_case (device_in 2678400 1) (when_last 0 ∷ []) (1 ∷ []))
+    ∷ row (Request 7) (run_case (device_in 2700000 0) (when_last 0 ∷ []) (1 ∷ []))
+    ∷ row (Request 7) (run_case (device_of 3 1000 (an_output 1000 0 0)) (when_last 0 ∷ []) (1 ∷ []))
+    ∷ row (Request 7) (run_case (device_of 4 1 (an_output 100000 0 0)) (when_last 0 ∷ []) (1 ∷ []))
+    ∷ row (Request 7) (run_case (device_of 0 100 (an_output 1 0 0)) (when_last 0 ∷ []) (1 ∷ []))
     -- a step aside: asked between the steps of two sessions it changes nothing, and the second commit is stale as ever
     ∷ row (Request 7) (run_case factory_device
     (Turn (Open 2 1111) ∷ Call 1 Begin ∷ Call 1 (Read 16) ∷ Call 2 Begin ∷ when_last 32 ∷ Call 2 (Write 16 (Whole (pos 9900))) ∷ when_last 11 ∷ Commit 2 ∷ when_last 32
