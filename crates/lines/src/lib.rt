@@ -28,7 +28,7 @@ pub struct Answers {
 }
 
 // The entries of the first whole lines of the input, in order; at most a block of them.
-#[tactic(auto, using(text::proofs::Bytes::the_rest, crate::proofs::Cuts::Taken, crate::proofs::Cuts::none_taken, crate::proofs::Cuts::line_more, crate::proofs::Cuts::no_more, crate::proofs::Cuts::full))]
+#[tactic(auto, using(crate::proofs::Cuts::none_taken, crate::proofs::Cuts::no_more))]
 pub fn inputs_in(input: &[u8]) -> Inputs
     ensures { result ≡ inputs_in input.now }
 {
@@ -60,7 +60,7 @@ pub fn inputs_in(input: &[u8]) -> Inputs
 }
 
 // Writes a line for each of the first `count` answers, and says how many bytes they take together.
-#[tactic(auto, using(crate::proofs::Fronts::Echoed, crate::proofs::Fronts::none_echoed, crate::proofs::Fronts::echo_more, crate::proofs::Fronts::all_echoed))]
+#[tactic(auto, using(crate::proofs::Fronts::all_echoed))]
 fn put_echoes(out: &mut [u8], responses: [Response; desk::BLOCK], count: usize) -> usize
     requires { room ≤ length out.old }
     ensures { Fronted out.old out.new (echo_lines (take (min count block) responses)) result }
@@ -81,7 +81,6 @@ fn put_echoes(out: &mut [u8], responses: [Response; desk::BLOCK], count: usize) 
 
 // Puts the first whole lines of the input, at most a block, to the desk, and writes the answers at the front of `out`. If `out` has not room for a block of the
 // longest lines, nothing is put to the desk: no answer is ever lost.
-#[tactic(auto, using(crate::proofs::Fronts::none_served, crate::proofs::Fronts::block_served))]
 pub fn answer(d: Desk, input: &[u8], out: &mut [u8]) -> Answers
     ensures { (result ≡ answers_of d input.now out.old)
         × (out.new ≡ answer_text d input.now out.old ++ drop result.used out.old) }
