@@ -1,6 +1,6 @@
 -- Lending more lines than there are is lending all of them; and what was lent comes back in front of the rest.
 -- Assumes nothing.
-use mathlib.Core.Path.{◌≡◌, refl, sym, ap, ◌∙◌, subst}
+use mathlib.Core.Path.{◌≡◌, sym, ap, ◌∙◌, subst}
 use Prim.Native.Nat.{ℕ, zero, suc, min}
 use native.Mathlib.Nat.{zero-min, suc-min-suc}
 use mathlib.Core.Bool.{Bool}
