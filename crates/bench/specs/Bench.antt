@@ -1,7 +1,7 @@
 -- What the bench does between a read and a write: it answers the lines that are there and keeps an unfinished one, and nothing else. No contract can say which bytes
 -- a read gives, or what becomes of those that are written.
 -- Assumes nothing.
-use Rattle.std.specs.Prelude.{ℕ, ◌+◌, ◌-◌, ◌≤◌, ◌<◌, ◌≡◌, Bool, true, false, List, [], ◌∷◌, ◌++◌, ltb, length, take, drop}
+use Rattle.std.specs.Prelude.{ℕ, ◌+◌, ◌-◌, ◌≤◌, ◌≡◌, Bool, true, false, List, [], ◌∷◌, ◌++◌, ltb, length, take, drop}
 use Rattle.text.specs.Words.{kept_part}
 use Rattle.desk.specs.declared.Desk.{Desk}
 use Rattle.lines.specs.Lines.{line_feed, answers_of, answer_text}
