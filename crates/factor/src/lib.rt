@@ -8,7 +8,7 @@ ghost use Rattle.factor.specs.Plan.{in_range, in_ranges, factor_guarded};
 
 use ground::ranges;
 
-// The numerator p·Tb·10^9 is (typeof.p.Tb.FIRST_STEP)·SECOND_STEP. The part in brackets fits 64 bits and is divided first; what is left over is
+// The numerator p·Tb·10^9 is (p·Tb·FIRST_STEP)·SECOND_STEP. The part in brackets fits 64 bits and is divided first; what is left over is
 // then divided with SECOND_STEP.
 const SECOND_STEP: u64 = 1000;
 

@@ -439,7 +439,7 @@ module _ (time supcode custcode : ℕ) (archive : List ArchiveLine) (log : List 
         (ap (λ (n : ℕ). n % lost_rollover) balanced.exact
         ∙ sym (add-mod-mod (emitted_in k past + waiting_in k past) (lost_in k past) lost_rollover))
 
-    -- and to the last pulse, where those lost are creditedBy without a rollover
+    -- and to the last pulse, where those lost are counted without a rollover
     pub balance_exactly : due_in k past ≡ emitted_in k past + output.waiting + lost_in k past
     balance_exactly = rw outputs_exactly balanced.exact
 
