@@ -227,7 +227,6 @@ LENT = {
     "open": ["log"],
     "shut": ["log"],
     "log": ["log"],
-    "last": ["log"],
     "archive": ["archive"],
     "cycle": ["archive", "log"],
     "commit": ["audit"],
@@ -250,7 +249,6 @@ def reasons(command, s, args, lengths={}):
         "tick": lambda n: {"long": n > 600},
         "readout": lambda room: {"short": room < 156},
         "log": lambda i: {"unheld": i >= s.log[0]},
-        "last": lambda code: {},
         "archive": lambda i: {"unheld": i >= s.archive[0]},
         "audit": lambda i: {"unheld": i >= s.audit[0]},
         "cycle": lambda time, n: {"early": time < s.time, "late": time >= END_OF_TIME, "many": n > 600, "large": base_amount(s.settings, n) >= BASE_UNITS},
@@ -276,7 +274,7 @@ def rights(s, session):
 def fate(command, s, args):
     """If it is not refused: what comes back, compared with what went in."""
     x = s.doors.get(args[0]) if args else None
-    if command in ("report", "outputs", "readout", "log", "archive", "audit", "last"):
+    if command in ("report", "outputs", "readout", "log", "archive", "audit"):
         return "same"
     if command == "tick":
         return "changed" if any(min(args[0], waiting) for _, waiting, _ in s.outputs) else "same"
@@ -295,7 +293,7 @@ def fate(command, s, args):
     return "changed"
 
 
-GIVES_VALUE = ("report", "outputs", "readout", "tick", "log", "archive", "audit", "last", "read")
+GIVES_VALUE = ("report", "outputs", "readout", "tick", "log", "archive", "audit", "read")
 tried = set()
 
 
@@ -334,7 +332,6 @@ ACCEPTED = [
     ("tick", (5,)),
     ("outputs", ()),
     ("readout", (156,)),
-    ("last", (9,)),
     ("cycle", (SOON, 10)),
     ("begin", (2,)),
     ("abandon", (1,)),
@@ -347,7 +344,6 @@ each = lambda command, *args: [(command, a) for a in args]
 ALL = ACCEPTED
 ALL = ALL + each("open", (0, 1234), (4, 0), (MOST, 0), (2, 0), (3, 1234)) + each("shut", (0,), (4,))
 ALL = ALL + each("log", (250,), (MOST,)) + each("archive", (15,), (MOST,)) + each("audit", (12,), (MOST,))
-ALL = ALL + each("last", (0,), (MOST,))
 ALL = ALL + each("cycle", (EARLY, 10), (SOON, 600), (LATE, 10), (EARLY, 601), (SOON, 601), (LATE, 601), (EARLY, MOST), (SOON, MOST), (MOST, MOST))
 ALL = ALL + each("tick", (0,), (600,), (601,), (MOST,))
 ALL = ALL + each("readout", (0,), (155,), (157,), (200,)) + each("parse", ("0203",))
@@ -645,30 +641,6 @@ def captured():
         print("  exchanged %d %d:" % (i, j), *parsed(bytes(bytes_)))
 
 
-# ---- the newest line with a code
-
-CODES = {0: 11, 7: 12, 249: 31, 250: 42}
-
-
-def newest():
-    """The store is a row of 251 lines, of which the first so many are lent. The line written last stands one place before the next, and before place 0 stands place 249."""
-    store = [(7, place, CODES.get(place, 9)) for place in range(251)]
-
-    def put(held, next_, refused):
-        places = [(next_ - 1 - i) % 250 for i in range(held)]
-        for code in (11, 12, 31, 42, 9, 0, MOST):
-            matches = [(i + 1, store[place]) for i, place in enumerate(places) if store[place][2] == code]
-            said = "1 nothing" if refused else "0 - %d" % held if not matches else "0 %d %d %d %d" % (*matches[0][1], matches[0][0])
-            print("  last %d: %s" % (code, said))
-
-    for held, next_ in ((0, 0), (1, 1), (8, 8), (249, 249), (250, 0), (250, 1), (250, 7), (250, 8), (250, 249), (8, 9), (251, 0)):
-        print("a logbook that holds %d, the next goes to %d" % (held, next_))
-        put(held, next_, held > 250 or held < 250 and next_ != held)
-    for events in (249, 251, 0):
-        print("a logbook of %d" % events)
-        put(250, 8, True)
-
-
 # ---- every two reasons that can hold together
 
 REASONS = {
@@ -680,7 +652,6 @@ REASONS = {
     "tick": ["not-whole", "long"],
     "readout": ["not-whole", "short"],
     "log": ["not-whole", "length", "unheld"],
-    "last": ["not-whole", "length"],
     "archive": ["not-whole", "length", "unheld"],
     "audit": ["not-whole", "length", "unheld"],
     "cycle": ["not-whole", "length", "early", "late", "many", "large"],
@@ -714,5 +685,4 @@ if __name__ == "__main__":
     order()
     buffers()
     captured()
-    newest()
     all_tried()

@@ -1,10 +1,9 @@
-// Prints docs/FAULT-CARD.md: the numbers that the device answers, its archive, its logbook, its pulse outputs, its readout and its settings. Limits, sizes, and the rows of settings, pairs and locks are the device's own. So a change
+// Prints docs/FAULT-CARD.md: the numbers that the device answers, its archive, its pulse outputs, its readout and its settings. Limits, sizes, and the rows of settings, pairs and locks are the device's own. So a change
 // of the device changes what is printed, and the gate refuses the committed page.
 #![tactic(auto)]
 
 mod archive;
 mod faults;
-mod logbook;
 mod page;
 mod pulses;
 mod readout;
@@ -23,8 +22,6 @@ fn main(rt: HostRuntime) -> io::Result<()> {
     faults::run(&mut out);
     text(&mut out, b"\n");
     archive::run(&mut out);
-    text(&mut out, b"\n");
-    logbook::run(&mut out);
     text(&mut out, b"\n");
     pulses::run(&mut out);
     text(&mut out, b"\n");

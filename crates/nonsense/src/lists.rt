@@ -7,7 +7,7 @@ use trials::trial::{Lines, each, exact};
 fn accepted(out: &mut Printer, s: State, x: Lines) {
     each(
         out,
-        b"open 2 1234\nshut 1\nclear\nreport\nlog 0\narchive 0\ntick 5\noutputs\nreadout 156\nlast 9\n",
+        b"open 2 1234\nshut 1\nclear\nreport\nlog 0\narchive 0\ntick 5\noutputs\nreadout 156\n",
         s,
         x,
     );
@@ -38,8 +38,6 @@ fn locks_and_lines(out: &mut Printer, s: State, x: Lines) {
         s,
         x,
     );
-    // Codes that no line has.
-    each(out, b"last 0\nlast 18446744073709551615\n", s, x);
 }
 
 // One second before the time of the state, well after it, and the first that is too late.

@@ -1,6 +1,6 @@
 // Puts nonsense to every public function of the device and prints the answers: first states that break one clause of "whole", then what the rows of
 // the settings allow and refuse, then stores of a wrong length, then commands refused for several reasons at once, then readouts into buffers of every kind of length,
-// then captured messages, then the newest line with a code in logbooks of every kind. The file stdout beside it is what tools/nonsense.py works out from the rules.
+// then captured messages. The file stdout beside it is what tools/nonsense.py works out from the rules.
 #![tactic(auto)]
 
 mod accounts;
@@ -9,7 +9,6 @@ mod captured;
 mod clauses;
 mod lengths;
 mod lists;
-mod newest;
 mod order;
 mod rows;
 mod values;
@@ -27,6 +26,5 @@ fn main(rt: HostRuntime) -> io::Result<()> {
     order::run(&mut out);
     buffers::run(&mut out);
     captured::run(&mut out);
-    newest::run(&mut out);
     out.finish()
 }
