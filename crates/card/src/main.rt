@@ -9,24 +9,24 @@ mod pulses;
 mod readout;
 mod table;
 
-use print::{Printer, text};
 use std::io;
+use std::io::{BufWriter, Write};
 
 fn main(rt: HostRuntime) -> io::Result<()> {
-    let mut out = Printer::new(&rt)?;
-    text(&mut out, b"# Hnchakorim: fault card and settings\n\n");
-    text(
-        &mut out,
-        b"Printed by the program `card`, with numbers, limits and sizes from the device's own constants, and settings, pairs and locks from its own rows; not edited by hand.\n\n",
-    );
-    faults::run(&mut out);
-    text(&mut out, b"\n");
-    archive::run(&mut out);
-    text(&mut out, b"\n");
-    pulses::run(&mut out);
-    text(&mut out, b"\n");
-    readout::run(&mut out);
-    text(&mut out, b"\n");
-    table::run(&mut out);
-    out.finish()
+    let mut out = BufWriter::new(rt.alloc(), rt.stdout())?;
+    writeln!(out, "# Hnchakorim: fault card and settings\n")?;
+    writeln!(
+        out,
+        "Printed by the program `card`, with numbers, limits and sizes from the device's own constants, and settings, pairs and locks from its own rows; not edited by hand.\n"
+    )?;
+    faults::run(&mut out)?;
+    writeln!(out)?;
+    archive::run(&mut out)?;
+    writeln!(out)?;
+    pulses::run(&mut out)?;
+    writeln!(out)?;
+    readout::run(&mut out)?;
+    writeln!(out)?;
+    table::run(&mut out)?;
+    out.flush()
 }

@@ -1,67 +1,52 @@
-// The cells of a row, and numbers as they look on a printed card.
-use print::{Printer, decimal, magnitude, text};
+// Numbers as they look on a printed card.
+use std::fmt;
+use std::fmt::Display;
 
-pub fn row_begins(out: &mut Printer) {
-    text(out, b"| ");
-}
+// What the last digit of each group of three stands for, from the highest on.
+const UNITS: [u64; 7] = [
+    1_000_000_000_000_000_000,
+    1_000_000_000_000_000,
+    1_000_000_000_000,
+    1_000_000_000,
+    1_000_000,
+    1_000,
+    1,
+];
 
-pub fn next_cell(out: &mut Printer) {
-    text(out, b" | ");
-}
+// With a comma between thousands.
+#[derive(Clone, Copy)]
+pub struct Grouped(pub u64);
 
-pub fn row_ends(out: &mut Printer) {
-    text(out, b" |\n");
-}
-
-// A group of three digits after the first group keeps its leading zeros.
-fn later_group(out: &mut Printer, n: u64) {
-    text(out, b",");
-    decimal(out, n / 100);
-    decimal(out, n / 10 % 10);
-    decimal(out, n % 10);
-}
-
-// The last three digits of what is left of a number once its lower groups are taken off; nothing if nothing is left.
-fn group(out: &mut Printer, rest: u64) {
-    if rest < 1_000 {
-        if 0 < rest {
-            decimal(out, rest);
+impl Display for Grouped {
+    fn fmt<W: fmt::Write>(&self, f: &mut fmt::Formatter<W>) -> fmt::Result {
+        for unit in UNITS {
+            let groups = self.0 / unit;
+            if 1_000 <= groups {
+                write!(f, ",{:03}", groups % 1_000)?;
+            } else if 0 < groups || unit == 1 {
+                write!(f, "{groups}")?;
+            }
         }
-    } else {
-        later_group(out, rest % 1_000);
+        Ok(())
     }
 }
 
-// With a comma between thousands.
-pub fn number(out: &mut Printer, n: u64) {
-    if n == 0 {
-        text(out, b"0");
-    } else {
-        group(out, n / 1_000_000_000_000_000_000);
-        group(out, n / 1_000_000_000_000_000);
-        group(out, n / 1_000_000_000_000);
-        group(out, n / 1_000_000_000);
-        group(out, n / 1_000_000);
-        group(out, n / 1_000);
-        group(out, n);
+#[derive(Clone, Copy)]
+pub struct Signed(pub i64);
+
+impl Display for Signed {
+    fn fmt<W: fmt::Write>(&self, f: &mut fmt::Formatter<W>) -> fmt::Result {
+        let sign = if self.0 < 0 { "-" } else { "" };
+        write!(f, "{sign}{}", Grouped(self.0.unsigned_abs()))
     }
 }
 
 // An hour of the day, from the seconds since midnight: 06:00.
-pub fn hour(out: &mut Printer, seconds: u64) {
-    two_digits(out, seconds / 3_600);
-    text(out, b":");
-    two_digits(out, seconds / 60 % 60);
-}
+#[derive(Clone, Copy)]
+pub struct Hour(pub u64);
 
-fn two_digits(out: &mut Printer, n: u64) {
-    decimal(out, n / 10 % 10);
-    decimal(out, n % 10);
-}
-
-pub fn whole(out: &mut Printer, n: i64) {
-    if n < 0 {
-        text(out, b"-");
+impl Display for Hour {
+    fn fmt<W: fmt::Write>(&self, f: &mut fmt::Formatter<W>) -> fmt::Result {
+        write!(f, "{:02}:{:02}", self.0 / 3_600, self.0 / 60 % 60)
     }
-    number(out, magnitude(n));
 }

@@ -1,47 +1,42 @@
 // The readout over the optical head: which address is which counter, and what is cut off.
-use crate::page::{next_cell, number, row_begins, row_ends};
-use print::{Printer, text};
+use crate::page::Grouped;
+use message::{VB, VBD, VBT, VM, VMD, VMT};
+use print::Out;
+use std::io;
+use std::io::Write;
 
-fn row(out: &mut Printer, address: [u8; 5], counter: &[u8]) {
-    row_begins(out);
-    text(out, &address);
-    next_cell(out);
-    text(out, counter);
-    row_ends(out);
+fn addresses(out: &mut Out) -> io::Result<()> {
+    writeln!(out, "| Address | Counter |\n|---|---|")?;
+    for (address, counter) in [
+        (VB, "Vb, main, at base conditions"),
+        (VBD, "VbD, disturbed, at base conditions"),
+        (VBT, "VbT, their total"),
+        (VM, "Vm, main, at measurement conditions"),
+        (VMD, "VmD, disturbed, at measurement conditions"),
+        (VMT, "VmT, their total"),
+    ] {
+        write!(out, "| ")?;
+        out.write_all(&address)?;
+        writeln!(out, " | {counter} |")?;
+    }
+    writeln!(out)
 }
 
-fn addresses(out: &mut Printer) {
-    text(out, b"| Address | Counter |\n|---|---|\n");
-    row(out, message::VB, b"Vb, main, at base conditions");
-    row(out, message::VBD, b"VbD, disturbed, at base conditions");
-    row(out, message::VBT, b"VbT, their total");
-    row(out, message::VM, b"Vm, main, at measurement conditions");
-    row(
+pub fn run(out: &mut Out) -> io::Result<()> {
+    writeln!(out, "## The readout\n")?;
+    writeln!(
         out,
-        message::VMD,
-        b"VmD, disturbed, at measurement conditions",
-    );
-    row(out, message::VMT, b"VmT, their total");
-}
-
-pub fn run(out: &mut Printer) {
-    text(
+        "A readout over the optical head is a message of {} bytes: one line for each of six counters, in cubic metres.\n",
+        Grouped(message::SIZE as u64)
+    )?;
+    addresses(out)?;
+    writeln!(
         out,
-        b"## The readout\n\nA readout over the optical head is a message of ",
-    );
-    number(out, message::SIZE as u64);
-    text(
+        "What comes after the third decimal is cut off and not rounded. So VbT may read 0.001 above what Vb and VbD read together: what was cut off of both can make"
+    )?;
+    writeln!(out, "a litre.\n")?;
+    writeln!(
         out,
-        b" bytes: one line for each of six counters, in cubic metres.\n\n",
-    );
-    addresses(out);
-    text(
-        out,
-        b"\nWhat comes after the third decimal is cut off and not rounded. So VbT may read 0.001 above what Vb and VbD read together: what was cut off of both can make\n",
-    );
-    text(out, b"a litre.\n\n");
-    text(
-        out,
-        b"The office reads a captured message back into six values in litres: `./parse FILE`. Every byte has to be there as the box sent it, and none besides.\n",
-    );
+        "The office reads a captured message back into six values in litres: `./parse FILE`. Every byte has to be there as the box sent it, and none besides."
+    )
 }

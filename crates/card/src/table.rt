@@ -1,179 +1,147 @@
 // The settings, the pairs and the locks, row by row as the device has them.
-use crate::page::{next_cell, number, row_begins, row_ends, whole};
-use print::{Printer, pattern, text, trimmed};
+use crate::page::Signed;
+use print::{Bits, Out, YesNo};
 use settings::Value;
-use settings::table::{CLEAR, LOCKS, PAIRS, Row, lock_of, pair_of, row_of};
+use settings::table::{CLEAR, LOCKS, Lock, PAIRS, Range, lock_of, pair_of, row_of};
+use state::faults::Fault;
+use std::fmt::Display;
+use std::io::Write;
+use std::{fmt, io};
 
-fn kind(out: &mut Printer, coefficient: bool) {
-    if coefficient {
-        text(out, b"float");
-    } else {
-        text(out, b"whole number");
-    }
-}
+#[derive(Clone, Copy)]
+struct Kind(Option<Range>);
 
-fn range(out: &mut Printer, r: Row) {
-    if r.coefficient {
-        text(out, b"any finite");
-    } else {
-        whole(out, r.lowest);
-        text(out, b" to ");
-        whole(out, r.highest);
-    }
-}
-
-// The decimal is printed beside the bits only if the float equals it, so that a changed row cannot keep an old decimal.
-fn decimal(out: &mut Printer, x: f64) {
-    if x == -40.0 {
-        text(out, b" = -40");
-    }
-    if x == 0.0078125 {
-        text(out, b" = 0.0078125");
-    }
-    if x == 0.0 {
-        text(out, b" = 0");
-    }
-}
-
-fn value(out: &mut Printer, v: Value) {
-    match v {
-        Value::Whole(n) => whole(out, n),
-        Value::Coefficient(x) => {
-            pattern(out, x);
-            decimal(out, x);
+impl Display for Kind {
+    fn fmt<W: fmt::Write>(&self, f: &mut fmt::Formatter<W>) -> fmt::Result {
+        match self.0 {
+            Some(Range { lowest, highest }) => {
+                write!(
+                    f,
+                    "whole number | {} to {}",
+                    Signed(lowest),
+                    Signed(highest)
+                )
+            }
+            None => write!(f, "float | any finite"),
         }
     }
 }
 
-// Its number and its name.
-fn lock(out: &mut Printer, lock: u8) {
-    let r = lock_of(lock);
-    let name = r.name;
-    number(out, r.number as u64);
-    text(out, b" ");
-    trimmed(out, &name);
+// A float has its decimal beside its bits.
+#[derive(Clone, Copy)]
+struct Factory(Value);
+
+impl Display for Factory {
+    fn fmt<W: fmt::Write>(&self, f: &mut fmt::Formatter<W>) -> fmt::Result {
+        match self.0 {
+            Value::Whole(n) => write!(f, "{}", Signed(n)),
+            Value::Coefficient(x) => write!(f, "{} = {x}", Bits(x)),
+        }
+    }
 }
 
-fn setting(out: &mut Printer, k: usize) {
-    let r = row_of(k);
-    let name = r.name;
-    let unit = r.unit;
-    let factory = r.factory;
-    row_begins(out);
-    number(out, r.number);
-    next_cell(out);
-    trimmed(out, &name);
-    next_cell(out);
-    trimmed(out, &unit);
-    next_cell(out);
-    kind(out, r.coefficient);
-    next_cell(out);
-    range(out, r);
-    next_cell(out);
-    value(out, factory);
-    next_cell(out);
-    lock(out, r.lock);
-    row_ends(out);
+// A lock's number and its name.
+#[derive(Clone, Copy)]
+struct Named(Lock);
+
+impl Display for Named {
+    fn fmt<W: fmt::Write>(&self, f: &mut fmt::Formatter<W>) -> fmt::Result {
+        write!(f, "{} {}", self.0.number, self.0.name)
+    }
 }
 
-fn every_setting(out: &mut Printer) {
+fn every_setting(out: &mut Out) -> io::Result<()> {
     for k in 0..settings::COUNT {
-        setting(out, k);
+        let row = row_of(k);
+        writeln!(
+            out,
+            "| {} | {} | {} | {} | {} | {} |",
+            row.number,
+            row.name,
+            row.unit,
+            Kind(row.range),
+            Factory(row.factory),
+            Named(lock_of(row.lock))
+        )?;
     }
-}
-
-fn named(out: &mut Printer, k: usize) {
-    let r = row_of(k);
-    let name = r.name;
-    trimmed(out, &name);
-}
-
-fn pair(out: &mut Printer, i: usize, between: &[u8], joined: &[u8]) {
-    if 0 < i {
-        text(out, joined);
-    }
-    let p = pair_of(i);
-    named(out, p.low);
-    text(out, between);
-    named(out, p.high);
+    Ok(())
 }
 
 // The names of each pair's settings with words between them, and words between the pairs.
-pub fn pairs(out: &mut Printer, between: &[u8], joined: &[u8]) {
-    for i in 0..PAIRS {
-        pair(out, i, between, joined);
-    }
+#[derive(Clone, Copy)]
+pub struct Pairs {
+    pub between: &'static str,
+    pub joined: &'static str,
 }
 
-fn gives(out: &mut Printer, right: bool) {
-    next_cell(out);
-    if right {
-        text(out, b"yes");
-    } else {
-        text(out, b"no");
+impl Display for Pairs {
+    fn fmt<W: fmt::Write>(&self, f: &mut fmt::Formatter<W>) -> fmt::Result {
+        for i in 0..PAIRS {
+            let pair = pair_of(i);
+            if 0 < i {
+                f.write_str(self.joined)?;
+            }
+            write!(
+                f,
+                "{}{}{}",
+                row_of(pair.low).name,
+                self.between,
+                row_of(pair.high).name
+            )?;
+        }
+        Ok(())
     }
 }
 
 // Which of the three locks give the right that a lock stands for.
-fn given_by(out: &mut Printer, lock: u8) {
-    let r = lock_of(lock);
-    gives(out, r.cal);
-    gives(out, r.sup);
-    gives(out, r.cust);
-    row_ends(out);
-}
+#[derive(Clone, Copy)]
+struct GivenBy(Lock);
 
-fn right(out: &mut Printer, n: u8) {
-    row_begins(out);
-    lock(out, n);
-    given_by(out, n);
-}
-
-fn every_right(out: &mut Printer) {
-    for n in 1..LOCKS + 1 {
-        right(out, n);
+impl Display for GivenBy {
+    fn fmt<W: fmt::Write>(&self, f: &mut fmt::Formatter<W>) -> fmt::Result {
+        write!(
+            f,
+            "{} | {} | {}",
+            YesNo(self.0.cal),
+            YesNo(self.0.sup),
+            YesNo(self.0.cust)
+        )
     }
 }
 
-fn clear(out: &mut Printer) {
-    row_begins(out);
-    text(out, b"Clear");
-    given_by(out, CLEAR);
+fn rights(out: &mut Out) -> io::Result<()> {
+    writeln!(out, "## The rights\n")?;
+    writeln!(
+        out,
+        "Find the setting's lock in the table above, then its row here. Any one of the locks with a yes is enough, if it is open at the commit. A commit needs"
+    )?;
+    writeln!(
+        out,
+        "this for every setting that it puts in force. Clear has its own row, and asks when it is given.\n"
+    )?;
+    writeln!(out, "| For | Lock 1 | Lock 2 | Lock 3 |\n|---|---|---|---|")?;
+    for n in 1..=LOCKS {
+        let lock = lock_of(n);
+        writeln!(out, "| {} | {} |", Named(lock), GivenBy(lock))?;
+    }
+    writeln!(out, "| Clear | {} |", GivenBy(lock_of(CLEAR)))
 }
 
-fn rights(out: &mut Printer) {
-    text(
+pub fn run(out: &mut Out) -> io::Result<()> {
+    writeln!(out, "## The {} settings\n", settings::COUNT)?;
+    writeln!(
         out,
-        b"## The rights\n\nFind the setting's lock in the table above, then its row here. Any one of the locks with a yes is enough, if it is open at the commit. A commit needs\n",
-    );
-    text(
+        "| No. | Setting | Unit | Kind | Range, ends included | Factory | Lock |\n|--:|---|---|---|---|---|---|"
+    )?;
+    every_setting(out)?;
+    writeln!(
         out,
-        b"this for every setting that it puts in force. Clear has its own row, and asks when it is given.\n\n",
-    );
-    text(
-        out,
-        b"| For | Lock 1 | Lock 2 | Lock 3 |\n|---|---|---|---|\n",
-    );
-    every_right(out);
-    clear(out);
-}
-
-pub fn run(out: &mut Printer) {
-    text(out, b"## The ");
-    number(out, settings::COUNT as u64);
-    text(out, b" settings\n\n");
-    text(
-        out,
-        b"| No. | Setting | Unit | Kind | Range, ends included | Factory | Lock |\n|--:|---|---|---|---|---|---|\n",
-    );
-    every_setting(out);
-    text(
-        out,
-        b"\nA float is written as the 16 hexadecimal digits of its bits. After a commit ",
-    );
-    pairs(out, b" is at most ", b" and ");
-    text(out, b", else ");
-    number(out, state::faults::PAIR_CROSSED);
-    text(out, b".\n\n");
-    rights(out);
+        "\nA float is written as the 16 hexadecimal digits of its bits. After a commit {}, else {}.\n",
+        Pairs {
+            between: " is at most ",
+            joined: " and ",
+        },
+        Fault::PairCrossed.number()
+    )?;
+    rights(out)
 }

@@ -6,13 +6,12 @@ use mathlib.Core.List.{List, [], ◌∷◌}
 use Prim.Native.Nat.{ℕ}
 use lib.Dec.{T, eqb, eqb→eq}
 use lib.IntN.{ℤ, pos, negsuc}
+use Rattle.std.proofs.Common.{Option, Some, None}
 use lib.ListN.{get_or}
 use Rattle.ground.proofs.Flags.{and_left, and_right, to_t, of_T}
 use Rattle.units.specs.Units.{litres_of, base_of}
 use Rattle.state.specs.declared.Alarms.{Alarms}
 use Rattle.state.specs.declared.Counters.{Counters}
-use Rattle.temperature.specs.declared.Measured.{Measured}
-use Rattle.temperature.specs.declared.Measured.TheVariants.{Failed, Hundredths}
 use Rattle.cases.specs.Cases.{same_whole, same_measured, same_numbers, same_flag, same_alarms, six_of, same_counters}
 
 pub same_whole_lem : (a b : ℤ) → T (same_whole a b) → a ≡ b
@@ -22,12 +21,12 @@ same_whole_lem (pos a) (negsuc b) t = absurd t
 same_whole_lem (negsuc a) (pos b) t = absurd t
 same_whole_lem (negsuc a) (negsuc b) t = ap negsuc (eqb→eq a b t)
 
-pub same_measured_lem : (a b : Measured) → T (same_measured a b) → a ≡ b
+pub same_measured_lem : (a b : Option ℤ) → T (same_measured a b) → a ≡ b
 unfolding same_measured
-same_measured_lem Failed Failed t = refl
-same_measured_lem Failed (Hundredths b) t = absurd t
-same_measured_lem (Hundredths a) Failed t = absurd t
-same_measured_lem (Hundredths a) (Hundredths b) t = ap Hundredths (same_whole_lem a b t)
+same_measured_lem None None t = refl
+same_measured_lem None (Some b) t = absurd t
+same_measured_lem (Some a) None t = absurd t
+same_measured_lem (Some a) (Some b) t = ap Some (same_whole_lem a b t)
 
 -- both tests of a pair
 left : (a b : Bool) → T (a && b) → T a

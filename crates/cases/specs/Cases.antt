@@ -1,7 +1,7 @@
 -- "Twelve cases by hand" of document 01, and those of the requests of document 02, as the rows of one table. A row says where it comes from and
 -- asks one question, with the answer that was worked out by hand. A new kind of row is a constructor of `Case` and a clause of `holds`.
 -- Assumes nothing.
-use Rattle.std.specs.Prelude.{Bool, true, false, not, ◌&&◌, List, [], ◌∷◌, ◌++◌, map, ℕ, ◌+◌, eqb, ℤ, pos, negsuc, neg_ℤ, Float, take, drop, replicate, set}
+use Rattle.std.specs.Prelude.{Bool, true, false, not, ◌&&◌, List, [], ◌∷◌, ◌++◌, map, ℕ, ◌+◌, eqb, ℤ, pos, negsuc, neg_ℤ, Option, Some, None, Result, Ok, Err, Float, take, drop, replicate, set}
 use Prim.Native.String.{String}
 use Rattle.std.specs.Float.{nan, inf, fin, binary64}
 use Rattle.std.specs.Float.Ieee.{of_bits}
@@ -9,8 +9,7 @@ use Rattle.order.specs.Order.{run}
 use Rattle.spelling.specs.Spelling.{bytes}
 use Rattle.message.specs.declared.Values.{Values}
 use Rattle.message.specs.Message.{check}
-use Rattle.reader.specs.declared.Parsed.{Parsed}
-use Rattle.reader.specs.declared.Parsed.TheVariants.{Accepted, Refused}
+use Rattle.reader.specs.declared.Unread.{Unread}
 use Rattle.reader.specs.Reader.{parsed, parsed_number}
 use Rattle.units.specs.Units.{litres_of, base_of}
 use Rattle.settings.specs.declared.Setting.{Setting}
@@ -22,14 +21,9 @@ use Rattle.outputs.specs.Outputs.{account_of, fresh_output}
 use Rattle.outputs.specs.Four.{rule_at, all_shown}
 use Rattle.factor.specs.Factor.{factor_of}
 use Rattle.readings.specs.Kelvin.{kelvin_of}
-use Rattle.temperature.specs.declared.Measured.{Measured}
-use Rattle.temperature.specs.declared.Measured.TheVariants.{Failed, Hundredths}
 use Rattle.temperature.specs.declared.Coefficients.{Coefficients}
 use Rattle.temperature.specs.Equation.{equation_of}
 use Rattle.temperature.specs.Nearest.{nearest_of}
-use Rattle.readings.specs.declared.RawTemperature.TheVariants.{Raw}
-use Rattle.readings.specs.declared.Pressure.TheVariants.{Pascals}
-use Rattle.readings.specs.declared.Compressibility.TheVariants.{NotComputed}
 use Rattle.ring.specs.Ring.{archive_lines, log_lines, audit_lines, book_after}
 use Rattle.ring.specs.Store.{held_lines}
 use Rattle.books.specs.declared.ArchiveLine.{ArchiveLine}
@@ -46,7 +40,6 @@ use Rattle.commands.specs.declared.Question.TheVariants as question
 use Rattle.commands.specs.declared.Given.{Given}
 use Rattle.commands.specs.declared.Given.TheVariants as given
 use Rattle.commands.specs.declared.Last.{Last}
-use Rattle.commands.specs.declared.Last.TheVariants.{Newest, NoneHeld}
 use Rattle.runs.specs.Run.{Step, Cycle, Turn, Open, Shut, Clear, Tick, Ask, Call, Commit, Begin, Read, Write, Abandon, World, Reply, number_of, corrector}
 use Rattle.runs.specs.InForce.{setting_of}
 use Rattle.runs.specs.Outputs.{emitted_by}
@@ -58,9 +51,9 @@ pub data Case : Type 0 where
   -- the factor of p, Tb, pb, T in hundredths of a kelvin and K; the last number is the answer
   factor_case : ℕ → ℕ → ℕ → ℕ → ℕ → ℕ → Case
   -- T.Mes of a result x of the temperature equation, and the answer
-  nearest_case : Float → Measured → Case
+  nearest_case : Float → Option ℤ → Case
   -- T.Mes by the three coefficients and a raw temperature, and the answer
-  measured_case : Coefficients → ℕ → Measured → Case
+  measured_case : Coefficients → ℕ → Option ℤ → Case
   -- a device with blank stores, the steps of its run, and the numbers of the answers in turn
   run_case : State → List Step → List ℕ → Case
   -- the same, and the six counters that a report shows after the last step
@@ -110,11 +103,11 @@ same_whole (pos a) (negsuc b) = false
 same_whole (negsuc a) (pos b) = false
 same_whole (negsuc a) (negsuc b) = eqb a b
 
-unfoldable pub same_measured : Measured → Measured → Bool
-same_measured Failed Failed = true
-same_measured Failed (Hundredths b) = false
-same_measured (Hundredths a) Failed = false
-same_measured (Hundredths a) (Hundredths b) = same_whole a b
+unfoldable pub same_measured : Option ℤ → Option ℤ → Bool
+same_measured None None = true
+same_measured None (Some b) = false
+same_measured (Some a) None = false
+same_measured (Some a) (Some b) = same_whole a b
 
 unfoldable pub same_numbers : List ℕ → List ℕ → Bool
 same_numbers [] [] = true
@@ -179,10 +172,13 @@ unfoldable pub all_read : List Reply → List ℕ
 all_read [] = []
 all_read (a ∷ rest) = readouts_by six_litres a.given ++ all_read rest
 
+unfoldable pub line_said : Option LogLine → List ℕ
+line_said (Some l) = l.number ∷ l.time ∷ l.code ∷ []
+line_said None = []
+
 -- NUMBER TIME CODE LOOKED, or LOOKED
 unfoldable pub last_said : Last → List ℕ
-last_said (Newest l looked) = l.number ∷ l.time ∷ l.code ∷ looked ∷ []
-last_said (NoneHeld looked) = looked ∷ []
+last_said x = line_said x.line ++ (x.looked ∷ [])
 
 unfoldable pub last_by : Given → List ℕ
 last_by given.Nothing = []
@@ -201,9 +197,9 @@ all_last [] = []
 all_last (a ∷ rest) = last_by a.given ++ all_last rest
 
 -- the reader accepted, and gave these values
-unfoldable pub read_to : Parsed → Values → Bool
-read_to (Accepted w) v = same_numbers (six_litres w) (six_litres v)
-read_to (Refused n) v = false
+unfoldable pub read_to : Result Values Unread → Values → Bool
+read_to (Ok w) v = same_numbers (six_litres w) (six_litres v)
+read_to (Err e) v = false
 
 -- a run: the numbers of its answers, and the test of what is seen at the end
 unfoldable pub ran_to : State → List Step → List ℕ → (World → Bool) → Bool
@@ -330,7 +326,7 @@ put_alone setting v = Call 1 Begin ∷ Call 1 (Write setting (Whole (pos v))) �
 
 -- a cycle at a time, of n pulses, raw 7,680 and a pressure in pascals; K is not computed
 abbrev pub a_cycle : ℕ → ℕ → ℕ → Step
-a_cycle time n p = Cycle (record { time = time; n = n; raw = Raw 7680; pressure = Pascals p; k = NotComputed })
+a_cycle time n p = Cycle (record { time = time; n = n; raw = Some 7680; pressure = Some p; k = None })
 
 -- six values in litres: Vb, VbD, VbT, Vm, VmD, VmT
 abbrev pub litres : ℕ → ℕ → ℕ → ℕ → ℕ → ℕ → Values
@@ -396,17 +392,17 @@ rows_to_two =
     row (H 1) (factor_case 101325 27315 101325 27315 10000 100000)
     ∷ row (H 2) (factor_case 202650 27315 101325 (kelvin_of (pos 2000)) 10000 186355)
     ∷ row (H 3) (factor_case 100001 27315 100000 27315 20000 50001)
-    ∷ row (H 4) (measured_case (coefficients_in factory_settings) 7680 (Hundredths (pos 2000)))
+    ∷ row (H 4) (measured_case (coefficients_in factory_settings) 7680 (Some (pos 2000)))
     ∷ row (H 4) (counters_case factory_device (a_cycle 60 10 202650 ∷ []) (0 ∷ []) (counts 1000 0 1000 186355000 0 186355000))
     ∷ row (H 5) (counters_case factory_device (a_cycle 60 10 89999 ∷ []) (0 ∷ []) (counts 0 1000 1000 0 93178000 93178000))  -- 93,178 is the factor with p.F
     ∷ row (H 5) (alarms_case factory_device (a_cycle 60 10 89999 ∷ []) (0 ∷ []) true false false)
     ∷ row (H 5) (counters_case factory_device (a_cycle 60 10 90000 ∷ []) (0 ∷ []) (counts 1000 0 1000 82763000 0 82763000))
     ∷ row (H 5) (alarms_case factory_device (a_cycle 60 10 90000 ∷ []) (0 ∷ []) false false false)
-    ∷ row (H 6) (nearest_case (fin true 1 (neg_ℤ (pos 1))) (Hundredths (neg_ℤ (pos 1))))  -- -0.5
-    ∷ row (H 6) (nearest_case (fin false 4001 (neg_ℤ (pos 1))) (Hundredths (pos 2001)))  -- 2,000.5
-    ∷ row (H 6) (nearest_case (fin true 1 (neg_ℤ (pos 2))) (Hundredths (pos 0)))  -- -0.25
-    ∷ row (H 6) (nearest_case (of_bits binary64 0x40d3_8800_0000_0000) (Hundredths (pos 20000)))  -- 20,000, by its bits
-    ∷ row (H 6) (nearest_case (of_bits binary64 0x40d3_8800_0000_0001) Failed)  -- the next float above
+    ∷ row (H 6) (nearest_case (fin true 1 (neg_ℤ (pos 1))) (Some (neg_ℤ (pos 1))))  -- -0.5
+    ∷ row (H 6) (nearest_case (fin false 4001 (neg_ℤ (pos 1))) (Some (pos 2001)))  -- 2,000.5
+    ∷ row (H 6) (nearest_case (fin true 1 (neg_ℤ (pos 2))) (Some (pos 0)))  -- -0.25
+    ∷ row (H 6) (nearest_case (of_bits binary64 0x40d3_8800_0000_0000) (Some (pos 20000)))  -- 20,000, by its bits
+    ∷ row (H 6) (nearest_case (of_bits binary64 0x40d3_8800_0000_0001) None)  -- the next float above
     ∷ row (H 7) (counters_case (device_at (counts 999999999900 0 999999999900 0 0 0)) (a_cycle 60 1 202650 ∷ []) (0 ∷ []) (counts 0 0 0 18635500 0 18635500))
     -- H8 as document 02, Two, moved it
     ∷ row (H 8) (months_case factory_device (a_cycle 2699999 0 202650 ∷ []) (0 ∷ []) [])

@@ -1,10 +1,12 @@
 -- What is answered to a command, and the device with its three stores. Document 01, "Number on the fault card".
 -- Assumes nothing.
-use Rattle.std.specs.Prelude.{ℕ, cond, List, [], eqb}
+use Rattle.std.specs.Prelude.{ℕ, cond, List, [], eqb, Result, Ok, Err}
 use Rattle.books.specs.declared.ArchiveLine.{ArchiveLine}
 use Rattle.books.specs.declared.LogLine.{LogLine}
 use Rattle.books.specs.declared.AuditLine.{AuditLine}
 use Rattle.state.specs.declared.State.{State}
+use Rattle.state.specs.declared.faults.Fault.{Fault}
+use Rattle.state.specs.Card.{number_of}
 use Rattle.commands.specs.declared.Given.{Given}
 use Rattle.commands.specs.declared.Given.TheVariants as given
 use Rattle.commands.specs.declared.Reply.{Reply}
@@ -17,6 +19,11 @@ plain n = record { number = n; given = given.Nothing }
 -- a refusal returns its number and no value
 abbrev pub giving : ℕ → Given → Reply
 giving n v = record { number = n; given = cond (eqb n 0) v given.Nothing }
+
+-- what was found to give, or the refusal
+abbrev pub reply_of : Result Given Fault → Reply
+reply_of (Ok v) = giving 0 v
+reply_of (Err fault) = plain (number_of fault)
 
 -- an answer that gives no value; a refusal leaves the state as it was
 abbrev pub answered : ℕ → State → State → Answer

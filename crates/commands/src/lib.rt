@@ -3,29 +3,33 @@
 #![tactic(auto)]
 
 ghost use Rattle.std.specs.Prelude.{◌≡◌};
+ghost use Rattle.state.specs.Card.{number_of};
 ghost use Rattle.commands.specs.Answers.{plain, giving, answered};
 
-use reader::Parsed;
+use message::Values;
+use reader::Unread;
+use state::{Fault, State};
 
-// What a cycle brings: a time, a pulse count n, and three readings.
-#[derive(Clone, Copy)]
+// What a cycle brings: a time, a pulse count n, and three readings. The raw temperature and the pressure, in pascals, are None if the sensor failed; K, in
+// ten-thousandths, is None if it was not computed.
+#[derive(Clone, Copy, PartialEq, Eq)]
 pub struct Brought {
     pub time: u64,
     pub n: u64,
-    pub raw: readings::RawTemperature,
-    pub pressure: readings::Pressure,
-    pub k: readings::Compressibility,
+    pub raw: Option<u16>,
+    pub pressure: Option<u64>,
+    pub k: Option<u64>,
 }
 
 // A lock opened with a code, or shut.
-#[derive(Clone, Copy)]
+#[derive(Clone, Copy, PartialEq, Eq)]
 pub enum LockTurn {
     Open(u64, u32),
     Shut(u64),
 }
 
 // A question changes nothing, whatever it answers. A readout says how many bytes are lent for its message. `Last` has the code of a logbook line.
-#[derive(Clone, Copy)]
+#[derive(Clone, Copy, PartialEq, Eq)]
 pub enum Question {
     Report,
     Outputs,
@@ -60,14 +64,14 @@ pub enum Command {
 #[derive(Clone, Copy)]
 pub struct Readout {
     pub room: u64,
-    pub values: message::Values,
+    pub values: Values,
 }
 
-// What the logbook says of a code: the newest line with it, or that none is held. Each with the number of lines looked at.
-#[derive(Clone, Copy)]
-pub enum Last {
-    Newest(books::LogLine, u64),
-    NoneHeld(u64),
+// What the logbook says of a code: the newest line with it, if one is held, and how many lines were looked at.
+#[derive(Clone, Copy, PartialEq, Eq)]
+pub struct Last {
+    pub line: Option<books::LogLine>,
+    pub looked: u64,
 }
 
 // What is given beside the number: nothing if the command was refused or has nothing to give.
@@ -76,8 +80,8 @@ pub enum Given {
     Nothing,
     Value(settings::Value),
     Report(state::Moment),
-    Emitted(outputs::Emitted),
-    Outputs(outputs::AllShown),
+    Emitted([u16; outputs::COUNT]),
+    Outputs([outputs::Shown; outputs::COUNT]),
     Readout(Readout),
     Archive(books::ArchiveLine),
     Log(books::LogLine),
@@ -86,6 +90,7 @@ pub enum Given {
 }
 
 // The number on the fault card, which is 0 for done, and what is given.
+// Stays: a number and not a `Result`, since the number is what is printed and promised: `refused_exactly`, `in_table` and `printed` of `runs` speak of it.
 #[derive(Clone, Copy)]
 pub struct Reply {
     pub number: u64,
@@ -96,7 +101,7 @@ pub struct Reply {
 #[derive(Clone, Copy)]
 pub struct Answer {
     pub reply: Reply,
-    pub state: state::State,
+    pub state: State,
 }
 
 // What a line of input asks for: nothing (it is empty or a comment), something unknown, a new device in the place of this one, a command, or that a message be read. The
@@ -111,7 +116,7 @@ pub enum Entry {
         custcode: u32,
     },
     Put(Command),
-    Parse(Parsed),
+    Parse(Result<Values, Unread>),
 }
 
 // What is said to a line.
@@ -120,16 +125,17 @@ pub enum Echo {
     Nothing,
     Unknown,
     Said(Reply),
-    Parse(Parsed),
+    Parse(Result<Values, Unread>),
 }
 
 // ---- answers
 
+// Stays: a number here and in the two functions below, since each promises its answer for any number; what refuses hands in a `Fault` (`Reply::refused`).
 pub fn plain_reply(number: u64) -> Reply
     ensures { result ≡ plain number }
 {
     Reply {
-        number: number,
+        number,
         given: Given::Nothing,
     }
 }
@@ -139,12 +145,8 @@ pub fn plain_reply(number: u64) -> Reply
 pub fn giving_reply(number: u64, given: Given) -> Reply
     ensures { result ≡ giving number given }
 {
-    let done = number == state::faults::DONE;
-    if done {
-        Reply {
-            number: number,
-            given: given,
-        }
+    if number == state::faults::DONE {
+        Reply { number, given }
     } else {
         plain_reply(number)
     }
@@ -152,19 +154,67 @@ pub fn giving_reply(number: u64, given: Given) -> Reply
 
 // A refusal leaves the state as it was.
 #[tactic(auto, unfolding(crate::specs::Answers::answered))]
-pub fn settled(number: u64, before: state::State, after: state::State) -> Answer
+pub fn settled(number: u64, before: State, after: State) -> Answer
     ensures { result ≡ answered number before after }
 {
-    let reply = plain_reply(number);
-    let done = number == state::faults::DONE;
-    if done {
+    Answer {
+        reply: plain_reply(number),
+        state: if number == state::faults::DONE {
+            after
+        } else {
+            before
+        },
+    }
+}
+
+impl Reply {
+    pub fn done(given: Given) -> Reply
+        ensures { result ≡ giving 0 given }
+    {
+        giving_reply(state::faults::DONE, given)
+    }
+
+    // Whatever there would have been to give.
+    #[tactic(auto, unfolding(state::specs::Card::number_of))]
+    pub fn refused(fault: Fault) -> Reply
+        ensures number { result ≡ plain (number_of fault) }
+        ensures nothing { (given : Given) → result ≡ giving (number_of fault) given }
+    {
+        plain_reply(fault.number())
+    }
+}
+
+impl From<Result<Given, Fault>> for Reply {
+    ghost use Rattle.commands.specs.Answers.{reply_of};
+
+    ghost from_gives = { λ outcome reply. reply ≡ reply_of outcome };
+
+    fn from(outcome: Result<Given, Fault>) -> Reply {
+        match outcome {
+            Ok(given) => Reply::done(given),
+            Err(fault) => Reply::refused(fault),
+        }
+    }
+}
+
+impl Answer {
+    pub fn done(given: Given, after: State) -> Answer
+        ensures { result ≡ record { reply = giving 0 given; state = after } }
+    {
         Answer {
-            reply: reply,
+            reply: Reply::done(given),
             state: after,
         }
-    } else {
+    }
+
+    // Whatever the state would have become.
+    #[tactic(auto, unfolding(state::specs::Card::number_of))]
+    pub fn refused(fault: Fault, before: State) -> Answer
+        ensures state { result ≡ record { reply = plain (number_of fault); state = before } }
+        ensures unchanged { (after : State) → result ≡ answered (number_of fault) before after }
+    {
         Answer {
-            reply: reply,
+            reply: Reply::refused(fault),
             state: before,
         }
     }

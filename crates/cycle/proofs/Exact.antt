@@ -4,6 +4,7 @@
 -- Settings 17 to 21 enter no formula: a cycle works with 1 to 16, and for the outputs with 22 to 29.
 -- Assumes nothing.
 use mathlib.Core.Path.{◌≡◌, refl, ap}
+use Rattle.std.proofs.Common.{Option, Some, None}
 use mathlib.Core.Bool.{Bool, true, false, cond}
 use mathlib.Core.List.{List}
 use Prim.Native.Nat.{ℕ, ◌+◌, ◌*◌, ◌≤◌, ◌<◌}
@@ -22,7 +23,6 @@ use Rattle.factor.specs.Factor.{numerator, denominator}
 use Rattle.factor.specs.Plan.{in_range, in_ranges}
 use Rattle.factor.proofs.Laws.{within_half, half_goes_up, guarded as factor-guarded}
 use Rattle.units.specs.declared.Amounts.{Amounts}
-use Rattle.units.specs.declared.Amounts.TheVariants.{TooLarge, Counted}
 use Rattle.units.specs.Units.{most_pulses}
 use Rattle.units.proofs.Counted.{guarded as amounts-guarded}
 use Rattle.outputs.specs.declared.Rule.{Rule}
@@ -76,10 +76,10 @@ abbrev pub denominator_for : List Setting → Brought → ℕ
 denominator_for a r = denominator (natural_at a pb) (kelvin_for a r) (k_for a r).value
 
 -- the outputs: a weight in range is taken as it is
-gained_guarded : (a : List Setting) → settings_fit_b a ≡ true → (disturbed : Bool) (amounts : Amounts) (o : List Output) → outputs_gained (rule_guarded a) disturbed amounts o ≡ outputs_gained (rule_at a) disturbed amounts o
+gained_guarded : (a : List Setting) → settings_fit_b a ≡ true → (disturbed : Bool) (amounts : Option Amounts) (o : List Output) → outputs_gained (rule_guarded a) disturbed amounts o ≡ outputs_gained (rule_at a) disturbed amounts o
 unfolding outputs_gained
-gained_guarded a e disturbed TooLarge o = refl
-gained_guarded a e disturbed (Counted v b) o = gains_guarded a e (record { disturbed = disturbed; litres = v; base = b }) o
+gained_guarded a e disturbed None o = refl
+gained_guarded a e disturbed (Some x) o = gains_guarded a e (record { disturbed = disturbed; litres = x.litres; base = x.base }) o
 
 module _ (s : State) (w : whole_b s ≡ true) (r : Brought) where
   -- in a whole state what the factor is worked out from lies in the ranges of the code
@@ -165,10 +165,10 @@ module _ (a b : List Setting) (but : SameBut a b) (r : Brought) where
   unfolding rule_at
   rule_same k = rw (but.outputs (first_choice + k) (omega arith), but.outputs (first_weight + k) (omega arith))
 
-  outputs_same : (disturbed : Bool) (amounts : Amounts) (o : List Output) → outputs_gained (rule_at a) disturbed amounts o ≡ outputs_gained (rule_at b) disturbed amounts o
+  outputs_same : (disturbed : Bool) (amounts : Option Amounts) (o : List Output) → outputs_gained (rule_at a) disturbed amounts o ≡ outputs_gained (rule_at b) disturbed amounts o
   unfolding outputs_gained
-  outputs_same disturbed TooLarge o = refl
-  outputs_same disturbed (Counted v b') o = ap (λ (rules : ℕ → Rule). all_gained rules (record { disturbed = disturbed; litres = v; base = b' }) o) (λ i k. rule_same k i)
+  outputs_same disturbed None o = refl
+  outputs_same disturbed (Some x) o = ap (λ (rules : ℕ → Rule). all_gained rules (record { disturbed = disturbed; litres = x.litres; base = x.base }) o) (λ i k. rule_same k i)
 
   pub gained_same : (o : List Output) → gained_for a r o ≡ gained_for b r o
   unfolding gained_for

@@ -3,6 +3,7 @@
 -- Assumes nothing.
 use mathlib.Core.Path.{◌≡◌, refl, sym, ap, ◌∙◌}
 use mathlib.Core.Logic.{◌≢◌}
+use Rattle.std.proofs.Common.{Option, Some, None}
 use mathlib.Core.Bool.{Bool, true, false, not, cond, ◌&&◌, ◌||◌}
 use mathlib.Core.List.{List, ◌++◌, reverse}
 use Prim.Native.Nat.{ℕ, ◌*◌, ◌≤◌}
@@ -12,7 +13,6 @@ use lib.ListN.{length, take}
 use borrow.Author.Tests.{eq-eqb, ltb-false}
 use Rattle.ground.proofs.Flags.{and_left, and_right, and_both}
 use Rattle.units.specs.declared.Amounts.{Amounts}
-use Rattle.units.specs.declared.Amounts.TheVariants.{TooLarge, Counted}
 use Rattle.units.specs.Units.{litres_rollover, base_rollover, litres_of, base_of, litres_shown, base_shown, plus_litres, plus_base, most_pulses, pulse_litres}
 use Rattle.units.proofs.Sums.{litres_in_range, base_in_range, total_main, total_disturbed}
 use Rattle.units.proofs.Counted.{never_more}
@@ -64,15 +64,15 @@ present_latched c r = latches_hold c.latches (alarms_for c.settings r)
 -- ---- counters
 
 -- the whole of both amounts to one side: the other side stands still
-main_stands : (c : Counters) (amounts : Amounts) → ((counted c true amounts).vm ≡ c.vm) × ((counted c true amounts).vb ≡ c.vb)
+main_stands : (c : Counters) (amounts : Option Amounts) → ((counted c true amounts).vm ≡ c.vm) × ((counted c true amounts).vb ≡ c.vb)
 unfolding counted
-main_stands c TooLarge = (refl, refl)
-main_stands c (Counted v b) = (refl, refl)
+main_stands c None = (refl, refl)
+main_stands c (Some x) = (refl, refl)
 
-disturbed_stands : (c : Counters) (amounts : Amounts) → ((counted c false amounts).vmd ≡ c.vmd) × ((counted c false amounts).vbd ≡ c.vbd)
+disturbed_stands : (c : Counters) (amounts : Option Amounts) → ((counted c false amounts).vmd ≡ c.vmd) × ((counted c false amounts).vbd ≡ c.vbd)
 unfolding counted
-disturbed_stands c TooLarge = (refl, refl)
-disturbed_stands c (Counted v b) = (refl, refl)
+disturbed_stands c None = (refl, refl)
+disturbed_stands c (Some x) = (refl, refl)
 
 module _ (c : Core) (r : Brought) where
   -- in a cycle with an alarm the main counters stand still, and in one without the disturbed ones do
@@ -104,36 +104,36 @@ in_range_lem c e =
     record { vm = and_left one two e2; vmd = and_right one two e2; vb = and_right (one && two) three e3; vbd = and_right (one && two && three) four e }
 
 -- counters in range stay in range
-pub counters_stay : (c : Counters) (disturbed : Bool) (amounts : Amounts) → counters_b c ≡ true → counters_b (counted c disturbed amounts) ≡ true
+pub counters_stay : (c : Counters) (disturbed : Bool) (amounts : Option Amounts) → counters_b c ≡ true → counters_b (counted c disturbed amounts) ≡ true
 unfolding counted counters_b
-counters_stay c disturbed TooLarge e = e
-counters_stay c false (Counted v b) e =
+counters_stay c disturbed None e = e
+counters_stay c false (Some x) e =
     let h = in_range_lem c e in
-    rw (litres_in_range c.vm v, h.vmd, base_in_range c.vb b, h.vbd)
-counters_stay c true (Counted v b) e =
+    rw (litres_in_range c.vm x.litres, h.vmd, base_in_range c.vb x.base, h.vbd)
+counters_stay c true (Some x) e =
     let h = in_range_lem c e in
-    rw (h.vm, litres_in_range c.vmd v, h.vb, base_in_range c.vbd b)
+    rw (h.vm, litres_in_range c.vmd x.litres, h.vb, base_in_range c.vbd x.base)
 
 -- totals that are main plus disturbed stay so
-pub totals_stay : (c : Counters) (disturbed : Bool) (amounts : Amounts) → totals_b c ≡ true → totals_b (counted c disturbed amounts) ≡ true
+pub totals_stay : (c : Counters) (disturbed : Bool) (amounts : Option Amounts) → totals_b c ≡ true → totals_b (counted c disturbed amounts) ≡ true
 unfolding counted totals_b plus_litres litres_shown plus_base base_shown
-totals_stay c disturbed TooLarge e = e
-totals_stay c false (Counted v b) e =
+totals_stay c disturbed None e = e
+totals_stay c false (Some x) e =
     let h = totals_sound c e in
     and_both
-    (eq-eqb _ _ (total_main litres_rollover c.vm.0 c.vmd.0 c.vmt.0 v.0 h.litres))
-    (eq-eqb _ _ (total_main base_rollover c.vb.0 c.vbd.0 c.vbt.0 b.0 h.base))
-totals_stay c true (Counted v b) e =
+    (eq-eqb _ _ (total_main litres_rollover c.vm.0 c.vmd.0 c.vmt.0 x.litres.0 h.litres))
+    (eq-eqb _ _ (total_main base_rollover c.vb.0 c.vbd.0 c.vbt.0 x.base.0 h.base))
+totals_stay c true (Some x) e =
     let h = totals_sound c e in
     and_both
-    (eq-eqb _ _ (total_disturbed litres_rollover c.vm.0 c.vmd.0 c.vmt.0 v.0 h.litres))
-    (eq-eqb _ _ (total_disturbed base_rollover c.vb.0 c.vbd.0 c.vbt.0 b.0 h.base))
+    (eq-eqb _ _ (total_disturbed litres_rollover c.vm.0 c.vmd.0 c.vmt.0 x.litres.0 h.litres))
+    (eq-eqb _ _ (total_disturbed base_rollover c.vb.0 c.vbd.0 c.vbt.0 x.base.0 h.base))
 
 -- outputs that are whole stay whole
-pub gained_whole : (a : List Setting) (disturbed : Bool) (amounts : Amounts) (o : List Output) → outputs_b (rule_at a) o ≡ true → outputs_b (rule_at a) (outputs_gained (rule_at a) disturbed amounts o).outputs ≡ true
+pub gained_whole : (a : List Setting) (disturbed : Bool) (amounts : Option Amounts) (o : List Output) → outputs_b (rule_at a) o ≡ true → outputs_b (rule_at a) (outputs_gained (rule_at a) disturbed amounts o).outputs ≡ true
 unfolding outputs_gained none_gained
-gained_whole a disturbed TooLarge o e = e
-gained_whole a disturbed (Counted v b) o e = gains_keep (rule_at a) (record { disturbed = disturbed; litres = v; base = b }) o e
+gained_whole a disturbed None o e = e
+gained_whole a disturbed (Some x) o e = gains_keep (rule_at a) (record { disturbed = disturbed; litres = x.litres; base = x.base }) o e
 
 -- ---- the amounts of a whole device
 
@@ -144,8 +144,10 @@ factor_at_most s r w = factor_most _ _ _ _ _ (asked_in_ranges s w r)
 module _ (s : State) (r : Brought) (w : whole_b s ≡ true) (few : r.n ≤ most_pulses) where
   -- n times the pulse value, and that times the factor
   pub amounts_counted : amounts_for s.core.settings r
-      ≡ Counted (litres_of (r.n * pulse_litres (natural_at s.core.settings cp)))
-      (base_of (r.n * pulse_litres (natural_at s.core.settings cp) * factor_for s.core.settings r))
+      ≡ Some (record {
+        litres = litres_of (r.n * pulse_litres (natural_at s.core.settings cp));
+        base = base_of (r.n * pulse_litres (natural_at s.core.settings cp) * factor_for s.core.settings r);
+      })
   unfolding amounts_for
   amounts_counted =
       let a : List Setting = s.core.settings in

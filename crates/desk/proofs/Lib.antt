@@ -1,3 +1,2 @@
--- The laws of a block; no freedom.
+-- No freedom.
 pub mod Fixed
-pub mod Laws

@@ -12,8 +12,6 @@ use Rattle.commands.specs.Answers.{World}
 use Rattle.steps.specs.Step.{with_state, step}
 use Rattle.desk.specs.declared.Desk.{Desk}
 use Rattle.desk.specs.declared.Started.{Started}
-use Rattle.desk.specs.declared.Input.{Input}
-use Rattle.desk.specs.declared.Response.{Response}
 use Rattle.desk.specs.declared.Served.{Served}
 
 -- how many lines a block may have
@@ -51,24 +49,24 @@ entered (entry.Parse p) w = (w, echo.Parse p)
 
 -- ---- lines one after another
 
-abbrev pub no_input : Input
-no_input = record { entry = entry.Nothing }
+abbrev pub no_input : Entry
+no_input = entry.Nothing
 
-abbrev pub no_response : Response
-no_response = record { echo = echo.Nothing }
+abbrev pub no_response : Echo
+no_response = echo.Nothing
 
-abbrev pub entry_at : List Input → ℕ → Entry
-entry_at inputs k = (get_or inputs k no_input).entry
+abbrev pub entry_at : List Entry → ℕ → Entry
+entry_at inputs k = get_or inputs k no_input
 
 -- the world after the first k lines
-unfoldable pub world_after : World → List Input → ℕ → World
+unfoldable pub world_after : World → List Entry → ℕ → World
 world_after w inputs zero = w
 world_after w inputs (suc k) = (entered (entry_at inputs k) (world_after w inputs k)).0
 
 -- what is said to the first k lines, each at its place
-unfoldable pub echoes : World → List Input → ℕ → List Response
+unfoldable pub echoes : World → List Entry → ℕ → List Echo
 echoes w inputs zero = replicate block no_response
-echoes w inputs (suc k) = set (echoes w inputs k) k (record { echo = (entered (entry_at inputs k) (world_after w inputs k)).1 })
+echoes w inputs (suc k) = set (echoes w inputs k) k (entered (entry_at inputs k) (world_after w inputs k)).1
 
-unfoldable pub served : Desk → List Input → ℕ → Served
+unfoldable pub served : Desk → List Entry → ℕ → Served
 served d inputs count = record { desk = desk_of (world_after (world_in d) inputs (min count block)); responses = echoes (world_in d) inputs (min count block) }

@@ -1,3 +1,2 @@
 -- The device and its stores in one plain value.
 pub mod Desk
-pub mod Plan

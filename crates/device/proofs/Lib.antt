@@ -1,2 +1,2 @@
--- Each way through the code does what its command's definition says.
+-- What the code does for a command is the command's step.
 pub mod Ways

@@ -53,3 +53,10 @@ parts x d h =
       second = (div-lt_iff_lt-mul p).1 (omega arith);
       last = mod-lt (x % d * 1000) p;
     }
+
+-- so the last remainder decides the rounding
+pub goes_up : (x d : ℕ) → 0 < d → d ≤ 2 * (x % d * 1000 % d) → x / d * 1000 + x % d * 1000 / d + 1 ≡ nearest_fraction (x * 1000) d
+goes_up x d p h = round_up (x * 1000) d _ _ (long_division x d) (mod-lt (x % d * 1000) p) h
+
+pub goes_down : (x d : ℕ) → 2 * (x % d * 1000 % d) < d → x / d * 1000 + x % d * 1000 / d ≡ nearest_fraction (x * 1000) d
+goes_down x d h = round_down (x * 1000) d _ _ (long_division x d) h

@@ -3,20 +3,22 @@
 use Prim.Native.Nat.{ℕ, zero, suc, ◌+◌, ◌-◌, ◌≤◌, ◌<◌, zero-le}
 use native.Mathlib.Nat.{le_trans, not-suc-le-zero, le_of_suc-le-suc}
 use native.Mathlib.Omega.{arith}
-use mathlib.Core.Path.{◌≡◌, refl, sym, ap, ◌∙◌, subst}
+use mathlib.Core.Path.{◌≡◌, refl, sym, ap, ◌∙◌}
 use mathlib.Core.Bool.{Bool, true, false, cond}
+use Rattle.std.specs.Prelude.{Option, Some, None}
+use Rattle.std.specs.List.{position_or_len}
+use Rattle.std.proofs.lemmas.List.Recursion.{is_position_or_len}
 use mathlib.Core.List.{List, [], ◌∷◌, ◌++◌, map, map-append, append_assoc}
 use lib.Dec.{eqb, ltb}
 use borrow.Author.Tests.{ltb-true, ltb-false}
-use lib.ListN.{length, take, drop, set, replicate, length-append, length-map, length-drop, length-take, drop_of_length-le}
+use lib.ListN.{length, take, drop, set, replicate, length-append, length-map, length-drop, length-take}
 use lib.Seq.{take-add, drop-drop, take_all, set_at, length-take-le}
 use Rattle.text.specs.Words.{first_of}
 use Rattle.commands.specs.declared.Entry.{Entry}
 use Rattle.text.specs.Entries.{entry_of}
-use Rattle.desk.specs.declared.Input.{Input}
 use Rattle.desk.specs.Desk.{block, no_input}
 use Rattle.lines.specs.declared.Inputs.{Inputs}
-use Rattle.lines.specs.Lines.{line_feed, in_front, whole_lines, bytes_of, input_of, in_block, inputs_of, inputs_in}
+use Rattle.lines.specs.Lines.{line_feed, line_end, in_front, whole_lines, bytes_of, in_block, inputs_of, inputs_in}
 
 -- ---- the first line feed
 
@@ -107,99 +109,119 @@ pub others_left : (input : List ℕ) → whole_lines (drop (inputs_in input).at 
 unfolding inputs_in inputs_of
 others_left input = others block input
 
--- none, unless the block is full
-pub none_left : (input : List ℕ) → (inputs_in input).count < block → whole_lines (drop (inputs_in input).at input) ≡ []
-unfolding inputs_in inputs_of
-none_left input h =
-    let w = whole_lines input in
-    let few : length w ≤ block = omega (arith, length-take block w) in
-    others block input ∙ drop_of_length-le w few
-
 -- ---- the loop after some turns
 
--- the first lines were taken, and n bytes stand before the next line feed
-pub record Taken (input : List ℕ) (inputs : List Input) (count at n : ℕ) : Type 0 where
-  pub few : count ≤ block
+first_of_is : (l : List ℕ) → first_of line_feed l ≡ position_or_len (λ b. eqb b line_feed) l
+unfolding first_of
+first_of_is l =
+    is_position_or_len (first_of line_feed) (λ b. eqb b line_feed) refl
+    (λ x xs. let e : suc (first_of line_feed xs) ≡ 1 + first_of line_feed xs = omega arith in ap (λ (k : ℕ). cond (eqb x line_feed) 0 k) e) l
+
+-- no line feed, no whole line
+no_feed : (l : List ℕ) → line_end l ≡ None → whole_lines l ≡ []
+no_feed l e =
+    let h : length l ≤ first_of line_feed l = rw (first_of_is l) (by_test (ltb n (length l)) n refl e) in
+    no_line l h
+  where
+    n : ℕ
+    n = position_or_len (λ b. eqb b line_feed) l
+
+    by_test : (t : Bool) (f : ℕ) → ltb f (length l) ≡ t → ◌≡◌ {A = Option ℕ} (cond t (Some f) None) None → length l ≤ f
+    by_test true f q r = absurd cc
+    by_test false f q r = ltb-false f (length l) q
+
+-- the first line ends where the first line feed is
+first_feed : (l : List ℕ) (n : ℕ) → line_end l ≡ Some n → (n < length l) × (whole_lines l ≡ take n l ∷ whole_lines (drop (suc n) l))
+first_feed l n e =
+    let found = by_test (ltb m (length l)) m refl e in
+    let f : first_of line_feed l ≡ n = first_of_is l ∙ found.1 in
+    let before : first_of line_feed l < length l = rw f found.0 in
+    (found.0, rw f at (cut_first l before))
+  where
+    m : ℕ
+    m = position_or_len (λ b. eqb b line_feed) l
+
+    by_test : (t : Bool) (f : ℕ) → ltb f (length l) ≡ t → ◌≡◌ {A = Option ℕ} (cond t (Some f) None) (Some n) → (n < length l) × (f ≡ n)
+    by_test true f q r = let same : f ≡ n = cc in (rw (sym same) (ltb-true f (length l) q), same)
+    by_test false f q r = absurd cc
+
+-- the first lines were taken
+pub record Taken (input : List ℕ) (inputs : List Entry) (count at : ℕ) : Type 0 where
   pub found : length (take count (whole_lines input)) ≡ count
   pub filled : inputs ≡ in_block (take count (whole_lines input))
   pub bytes : at ≡ bytes_of (take count (whole_lines input))
   pub within : at ≤ length input
-  pub next : n ≡ first_of line_feed (drop at input)
 
-pub none_taken : (input : List ℕ) (blank : Input) (n : ℕ) → blank ≡ no_input → n ≡ first_of line_feed input → Taken input (replicate block blank) 0 0 n
+pub none_taken : (input : List ℕ) → Taken input (replicate block no_input) 0 0
 unfolding in_block bytes_of
-none_taken input blank n e f = record { few = zero-le; found = refl; filled = ap (replicate block) e; bytes = refl; within = zero-le; next = f }
+none_taken input = record { found = refl; filled = refl; bytes = refl; within = zero-le }
 
-left_of : {input : List ℕ} {inputs : List Input} {count at n : ℕ} → Taken input inputs count at n → whole_lines (drop at input) ≡ drop count (whole_lines input)
+left_of : {input : List ℕ} {inputs : List Entry} {count at : ℕ} → Taken input inputs count at → whole_lines (drop at input) ≡ drop count (whole_lines input)
 left_of {input} {inputs} {count} t = ap (λ (a : ℕ). whole_lines (drop a input)) t.bytes ∙ others count input
 
 -- one entry more takes the place of a blank one
-one_more : (ls : List (List ℕ)) (line : List ℕ) (k : ℕ) → length ls ≡ k → k < block → set (in_block ls) k (input_of line) ≡ in_block (ls ++ (line ∷ []))
+one_more : (ls : List (List ℕ)) (line : List ℕ) (k : ℕ) → length ls ≡ k → k < block → set (in_block ls) k (entry_of line) ≡ in_block (ls ++ (line ∷ []))
 unfolding in_block
 one_more ls line k e h =
     let m = block - suc k in
     let blank : block - length ls ≡ suc m = omega arith in
     let fewer : block - length (ls ++ (line ∷ [])) ≡ m = omega (arith, length-append ls (line ∷ [])) in
-    ap (λ (j : ℕ). set (map input_of ls ++ replicate j no_input) k (input_of line)) blank
-    ∙ set_at (map input_of ls) no_input (replicate m no_input) (input_of line) k (length-map ls input_of ∙ e)
-    ∙ sym (append_assoc (map input_of ls) (input_of line ∷ []) (replicate m no_input))
-    ∙ ap (λ (os : List Input). os ++ replicate m no_input) (sym (map-append input_of ls (line ∷ [])))
-    ∙ ap (λ (j : ℕ). map input_of (ls ++ (line ∷ [])) ++ replicate j no_input) (sym fewer)
+    ap (λ (j : ℕ). set (map entry_of ls ++ replicate j no_input) k (entry_of line)) blank
+    ∙ set_at (map entry_of ls) no_input (replicate m no_input) (entry_of line) k (length-map ls entry_of ∙ e)
+    ∙ sym (append_assoc (map entry_of ls) (entry_of line ∷ []) (replicate m no_input))
+    ∙ ap (λ (os : List Entry). os ++ replicate m no_input) (sym (map-append entry_of ls (line ∷ [])))
+    ∙ ap (λ (j : ℕ). map entry_of (ls ++ (line ∷ [])) ++ replicate j no_input) (sym fewer)
 
-pub line_more : (input : List ℕ) (inputs : List Input) (count at n : ℕ) → Taken input inputs count at n → n < length input - at → count < block
-    → (c : Entry) → c ≡ entry_of (take n (drop at input)) → (m : ℕ) → m ≡ first_of line_feed (drop (at + n + 1) input)
-    → Taken input (set inputs count (record { entry = c })) (count + 1) (at + n + 1) m
+pub line_more : (input : List ℕ) (inputs : List Entry) (count at n : ℕ) → Taken input inputs count at → count < block
+    → line_end (drop at input) ≡ Some n
+    → Taken input (set inputs count (entry_of (take n (drop at input)))) (count + 1) (at + (n + 1))
 unfolding bytes_of
-line_more input inputs count at n t h q c f m e =
+line_more input inputs count at n t q e =
     let w = whole_lines input in
     let rest = drop at input in
     let line = take n rest in
-    let d : length rest ≡ length input - at = length-drop at input in
-    let size : length line ≡ n = length-take-le n rest (omega arith) in
-    let before : first_of line_feed rest < length rest = subst (λ (k : ℕ). k < length rest) t.next (omega arith) in
-    let cut : whole_lines rest ≡ line ∷ whole_lines (drop (suc n) rest) = rw t.next (cut_first rest before) in
-    let ahead : drop count w ≡ line ∷ whole_lines (drop (suc n) rest) = sym (left_of t) ∙ cut in
+    let feed = first_feed rest n e in
+    let size : length line ≡ n = length-take-le n rest (omega (arith, feed.0)) in
+    let ahead : drop count w ≡ line ∷ whole_lines (drop (suc n) rest) = sym (left_of t) ∙ feed.1 in
     let taken : take (count + 1) w ≡ take count w ++ (line ∷ []) = take-add count 1 w ∙ ap (λ (x : List (List ℕ)). take count w ++ take 1 x) ahead in
     record {
-      few = omega arith;
       found = ap length taken ∙ length-append (take count w) (line ∷ []) ∙ ap (λ (k : ℕ). k + 1) t.found;
       filled =
-          ap (λ (x : Entry). set inputs count (record { entry = x })) f
-          ∙ ap (λ (os : List Input). set os count (input_of line)) t.filled
+          ap (λ (os : List Entry). set os count (entry_of line)) t.filled
           ∙ one_more (take count w) line count t.found q
           ∙ ap in_block (sym taken);
       bytes = omega (arith, ap bytes_of taken, bytes_both (take count w) (line ∷ []), t.bytes);
-      within = omega arith;
-      next = e;
+      within = omega (arith, feed.0, length-drop at input);
     }
 
 -- the inputs of the lines taken are those of the input, where these lines are the block's
-taken_whole : (input : List ℕ) (inputs : List Input) (count at n : ℕ) → Taken input inputs count at n → take count (whole_lines input) ≡ take block (whole_lines input)
+taken_whole : (input : List ℕ) (inputs : List Entry) (count at : ℕ) → Taken input inputs count at → take count (whole_lines input) ≡ take block (whole_lines input)
     → record { count = count; inputs = inputs; at = at } ≡ inputs_in input
 unfolding inputs_in inputs_of
-taken_whole input inputs count at n t e =
+taken_whole input inputs count at t e =
     ap (λ (k : ℕ). made k inputs at) (sym t.found)
-    ∙ ap (λ (os : List Input). made (length ls) os at) t.filled
+    ∙ ap (λ (os : List Entry). made (length ls) os at) t.filled
     ∙ ap (λ (a : ℕ). made (length ls) (in_block ls) a) t.bytes
     ∙ ap (λ (x : List (List ℕ)). made (length x) (in_block x) (bytes_of x)) e
   where
     ls : List (List ℕ)
     ls = take count (whole_lines input)
 
-    made : ℕ → List Input → ℕ → Inputs
+    made : ℕ → List Entry → ℕ → Inputs
     made k os a = record { count = k; inputs = os; at = a }
 
 -- no whole line is left
-pub no_more : (input : List ℕ) (inputs : List Input) (count at n : ℕ) → Taken input inputs count at n → length input - at ≤ n
+pub no_more : (input : List ℕ) (inputs : List Entry) (count at : ℕ) → Taken input inputs count at → count ≤ block
+    → line_end (drop at input) ≡ None
     → record { count = count; inputs = inputs; at = at } ≡ inputs_in input
-no_more input inputs count at n t h =
+no_more input inputs count at t q e =
     let w = whole_lines input in
-    let last : length (drop at input) ≤ first_of line_feed (drop at input) = subst (λ (k : ℕ). length (drop at input) ≤ k) t.next (omega (arith, length-drop at input)) in
-    let none : drop count w ≡ [] = sym (left_of t) ∙ no_line (drop at input) last in
+    let none : drop count w ≡ [] = sym (left_of t) ∙ no_feed (drop at input) e in
     let few : length w ≤ count = omega (arith, length-drop count w, ap length none) in
-    taken_whole input inputs count at n t (take_all count w few ∙ sym (take_all block w (omega (arith, t.few))))
+    taken_whole input inputs count at t (take_all count w few ∙ sym (take_all block w (omega arith)))
 
 -- the block is full
-pub full : (input : List ℕ) (inputs : List Input) (count at n : ℕ) → Taken input inputs count at n → count ≡ block
-    → record { count = count; inputs = inputs; at = at } ≡ inputs_in input
-full input inputs count at n t e = taken_whole input inputs count at n t (ap (λ (k : ℕ). take k (whole_lines input)) e)
+pub full : (input : List ℕ) (inputs : List Entry) (count at : ℕ) → Taken input inputs count at → count ≡ block
+    → record { count = block; inputs = inputs; at = at } ≡ inputs_in input
+full input inputs count at t e =
+    ap (λ (k : ℕ). record { count = k; inputs = inputs; at = at }) (sym e) ∙ taken_whole input inputs count at t (ap (λ (k : ℕ). take k (whole_lines input)) e)

@@ -1,12 +1,12 @@
 -- Lines by the block: the entries of the whole lines of an input, what a desk says to them, and the lines of that.
 -- Assumes nothing.
-use Rattle.std.specs.Prelude.{ℕ, ◌+◌, ◌-◌, ◌*◌, ◌≡◌, cond, List, [], ◌∷◌, ◌++◌, map, eqb, ltb, length, take, drop, replicate}
+use Rattle.std.specs.Prelude.{ℕ, ◌+◌, ◌-◌, ◌*◌, ◌≡◌, cond, List, [], ◌∷◌, ◌++◌, map, position, Option, eqb, ltb, length, take, drop, replicate}
 use Prim.Native.Char.{code as byte}
 use Rattle.text.specs.Entries.{entry_of}
 use Rattle.text.specs.Echoes.{echo_text, enough}
+use Rattle.commands.specs.declared.Entry.{Entry}
+use Rattle.commands.specs.declared.Echo.{Echo}
 use Rattle.desk.specs.declared.Desk.{Desk}
-use Rattle.desk.specs.declared.Input.{Input}
-use Rattle.desk.specs.declared.Response.{Response}
 use Rattle.desk.specs.declared.Served.{Served}
 use Rattle.desk.specs.Desk.{block, no_input, served}
 use Rattle.lines.specs.declared.Inputs.{Inputs}
@@ -16,6 +16,10 @@ use Rattle.lines.specs.declared.Answers.{Answers}
 
 abbrev pub line_feed : ℕ
 line_feed = byte "\n"
+
+-- where the first line feed is
+abbrev pub line_end : List ℕ → Option ℕ
+line_end input = position (λ b. eqb b line_feed) input
 
 -- a byte put before the first of these lines; if there is no line, no line feed follows the byte, so it is in no whole line
 unfoldable pub in_front : ℕ → List (List ℕ) → List (List ℕ)
@@ -34,12 +38,9 @@ bytes_of (line ∷ lines) = length line + 1 + bytes_of lines
 
 -- ---- their entries
 
-abbrev pub input_of : List ℕ → Input
-input_of line = record { entry = entry_of line }
-
 -- the entries in order, and blank ones up to a block
-unfoldable pub in_block : List (List ℕ) → List Input
-in_block lines = map input_of lines ++ replicate (block - length lines) no_input
+unfoldable pub in_block : List (List ℕ) → List Entry
+in_block lines = map entry_of lines ++ replicate (block - length lines) no_input
 
 unfoldable pub inputs_of : List (List ℕ) → Inputs
 inputs_of lines = record { count = length lines; inputs = in_block lines; at = bytes_of lines }
@@ -51,9 +52,9 @@ inputs_in input = inputs_of (take block (whole_lines input))
 -- ---- the lines of what is said
 
 -- one after another
-unfoldable pub echo_lines : List Response → List ℕ
+unfoldable pub echo_lines : List Echo → List ℕ
 echo_lines [] = []
-echo_lines (x ∷ responses) = echo_text x.echo ++ echo_lines responses
+echo_lines (x ∷ responses) = echo_text x ++ echo_lines responses
 
 -- room for a block of the longest lines
 abbrev pub room : ℕ

@@ -1,9 +1,8 @@
 -- What one cycle measures, in the paper's order of work. Document 01, "One measuring cycle"; document 02, One and Three.
 -- Assumes nothing.
-use Rattle.std.specs.Prelude.{ℕ, zero, suc, ◌+◌, ◌-◌, Bool, true, false, not, ◌&&◌, ◌||◌, List, [], ◌∷◌, ◌++◌, map, get_or, ℤ, Float}
+use Rattle.std.specs.Prelude.{ℕ, zero, suc, ◌+◌, ◌-◌, Bool, true, false, not, ◌&&◌, ◌||◌, List, [], ◌∷◌, ◌++◌, map, get_or, Option, Some, None, ℤ, Float}
 use Rattle.ground.specs.Below.{listed}
 use Rattle.units.specs.declared.Amounts.{Amounts}
-use Rattle.units.specs.declared.Amounts.TheVariants.{TooLarge, Counted}
 use Rattle.units.specs.Units.{plus_litres, plus_base, amounts_of}
 use Rattle.settings.specs.declared.Setting.{Setting}
 use Rattle.settings.specs.Settings.{value_at, whole_of, coefficient_of, cp, pb, tb, md_p, md_t, md_k, p_min, p_max, t_min, t_max, eq1, eq2, eq3, p_f, t_f, k_f}
@@ -15,7 +14,6 @@ use Rattle.outputs.specs.Four.{output_count, rule_at, all_gained, none_gained}
 use Rattle.calendar.specs.Calendar.{month_of}
 use Rattle.temperature.specs.declared.Coefficients.{Coefficients}
 use Rattle.readings.specs.declared.Taken.{Taken}
-use Rattle.readings.specs.declared.TakenTemperature.{TakenTemperature}
 use Rattle.readings.specs.Pressure.{pressure_taken}
 use Rattle.readings.specs.Compressibility.{k_taken}
 use Rattle.readings.specs.Temperature.{temperature_taken}
@@ -25,8 +23,7 @@ use Rattle.books.specs.declared.ArchiveLine.{ArchiveLine}
 use Rattle.state.specs.declared.Counters.{Counters}
 use Rattle.state.specs.declared.Alarms.{Alarms}
 use Rattle.state.specs.declared.Measured.{Measured}
-use Rattle.notes.specs.declared.Note.{Note}
-use Rattle.notes.specs.Notes.{note_of, noted}
+use Rattle.notes.specs.Notes.{Note, note_of, noted}
 use Rattle.commands.specs.declared.Brought.{Brought}
 
 -- The value in force of a setting, with its sign or as a float. A setting is given by its name, which is its place in the table.
@@ -60,13 +57,13 @@ month_lines c a b = map (archive_line c) (months_crossed a b)
 unfoldable pub coefficients_in : List Setting → Coefficients
 coefficients_in a = record { eq1 = coefficient_at a eq1; eq2 = coefficient_at a eq2; eq3 = coefficient_at a eq3 }
 
-unfoldable pub temperature_for : List Setting → Brought → TakenTemperature
+unfoldable pub temperature_for : List Setting → Brought → Taken ℤ
 temperature_for a r = temperature_taken (natural_at a md_t) (whole_at a t_min) (whole_at a t_max) (whole_at a t_f) (coefficients_in a) r.raw
 
-unfoldable pub pressure_for : List Setting → Brought → Taken
+unfoldable pub pressure_for : List Setting → Brought → Taken ℕ
 pressure_for a r = pressure_taken (natural_at a md_p) (natural_at a p_min) (natural_at a p_max) (natural_at a p_f) r.pressure
 
-unfoldable pub k_for : List Setting → Brought → Taken
+unfoldable pub k_for : List Setting → Brought → Taken ℕ
 k_for a r = k_taken (natural_at a md_k) (natural_at a k_f) r.k
 
 -- an alarm is present as this cycle found it
@@ -84,29 +81,29 @@ factor_for a r = factor_of (pressure_for a r).value (natural_at a tb) (natural_a
 -- ---- 6. Counting
 
 -- n times the pulse value, and that times the factor
-unfoldable pub amounts_for : List Setting → Brought → Amounts
+unfoldable pub amounts_for : List Setting → Brought → Option Amounts
 amounts_for a r = amounts_of r.n (natural_at a cp) (factor_for a r)
 
-unfoldable pub is_too_large : Amounts → Bool
-is_too_large TooLarge = true
-is_too_large (Counted v b) = false
+unfoldable pub is_too_large : Option Amounts → Bool
+is_too_large None = true
+is_too_large (Some x) = false
 
 unfoldable pub any_alarm : Alarms → Bool
 any_alarm a = a.p || a.t || a.k
 
 -- Without an alarm both amounts go to the main counters, and with one the whole of both goes to the disturbed counters. The other two stand
 -- still. To the totals both amounts go in either case (document 02, One).
-unfoldable pub counted : Counters → Bool → Amounts → Counters
-counted c disturbed TooLarge = c
-counted c false (Counted v b) = record { vm = plus_litres c.vm v; vmd = c.vmd; vmt = plus_litres c.vmt v; vb = plus_base c.vb b; vbd = c.vbd; vbt = plus_base c.vbt b }
-counted c true (Counted v b) = record { vm = c.vm; vmd = plus_litres c.vmd v; vmt = plus_litres c.vmt v; vb = c.vb; vbd = plus_base c.vbd b; vbt = plus_base c.vbt b }
+unfoldable pub counted : Counters → Bool → Option Amounts → Counters
+counted c disturbed None = c
+counted c false (Some x) = record { vm = plus_litres c.vm x.litres; vmd = c.vmd; vmt = plus_litres c.vmt x.litres; vb = plus_base c.vb x.base; vbd = c.vbd; vbt = plus_base c.vbt x.base }
+counted c true (Some x) = record { vm = c.vm; vmd = plus_litres c.vmd x.litres; vmt = plus_litres c.vmt x.litres; vb = c.vb; vbd = plus_base c.vbd x.base; vbt = plus_base c.vbt x.base }
 
 -- ---- the pulse outputs (document 02, Three)
 
 -- what the outputs gain: both amounts, by whether the cycle is disturbed
-unfoldable pub outputs_gained : (ℕ → Rule) → Bool → Amounts → List Output → AllGained
-outputs_gained rules disturbed TooLarge o = none_gained o
-outputs_gained rules disturbed (Counted v b) o = all_gained rules (record { disturbed = disturbed; litres = v; base = b }) o
+unfoldable pub outputs_gained : (ℕ → Rule) → Bool → Option Amounts → List Output → AllGained
+outputs_gained rules disturbed None o = none_gained o
+outputs_gained rules disturbed (Some x) o = all_gained rules (record { disturbed = disturbed; litres = x.litres; base = x.base }) o
 
 -- the outputs after a cycle, and which of them lost pulses in it
 unfoldable pub gained_for : List Setting → Brought → List Output → AllGained
@@ -135,7 +132,7 @@ changes before found over = noted (change_notes before found ++ loss_notes over)
 -- ---- together
 
 -- what is measured after a cycle at a time, from the alarms found and the amounts
-abbrev pub measured_by : Measured → ℕ → Alarms → Amounts → Measured
+abbrev pub measured_by : Measured → ℕ → Alarms → Option Amounts → Measured
 measured_by m time found amounts = record {
   time = time;
   month = month_of time;

@@ -1,11 +1,8 @@
 -- How the code works out what a cycle measures. It works with 64 bits, so its factor and its amounts are guarded: outside the bounds that fit they
 -- are a stand-in. A whole state never gets there: `factor_exact` and `amounts_exact` in crates/cycle/proofs/Exact.antt.
 -- Assumes nothing.
-use Rattle.std.specs.Prelude.{ℕ, Bool, not, ◌&&◌, List, [], ◌∷◌, ltb, leb}
+use Rattle.std.specs.Prelude.{ℕ, Option, Bool, not, ◌&&◌, List, [], ◌∷◌, ltb, leb}
 use Rattle.units.specs.declared.Amounts.{Amounts}
-use Rattle.units.specs.declared.Amounts.TheVariants.{Counted}
-use Rattle.units.specs.declared.Litres.{Litres}
-use Rattle.units.specs.declared.BaseUnits.{BaseUnits}
 use Rattle.units.specs.Units.{most_pulses}
 use Rattle.units.specs.Plan.{amounts_guarded}
 use Rattle.settings.specs.declared.Setting.{Setting}
@@ -16,18 +13,17 @@ use Rattle.outputs.specs.declared.Output.{Output}
 use Rattle.outputs.specs.declared.AllGained.{AllGained}
 use Rattle.outputs.specs.Plan.{rule_guarded}
 use Rattle.calendar.specs.Calendar.{end_of_time}
-use Rattle.state.specs.declared.Counters.{Counters}
 use Rattle.state.specs.declared.Alarms.{Alarms}
 use Rattle.state.specs.Card.{first_of}
 use Rattle.commands.specs.declared.Brought.{Brought}
 use Rattle.measuring.specs.declared.Found.{Found}
-use Rattle.measuring.specs.Measuring.{natural_at, temperature_for, pressure_for, k_for, alarms_for, any_alarm, counted, outputs_gained}
+use Rattle.measuring.specs.Measuring.{natural_at, temperature_for, pressure_for, k_for, alarms_for, any_alarm, outputs_gained}
 
 -- the factor and the amounts
 unfoldable pub factor_planned : List Setting → Brought → ℕ
 factor_planned a r = factor_guarded (pressure_for a r).value (natural_at a tb) (natural_at a pb) (kelvin_guarded (temperature_for a r).value) (k_for a r).value
 
-unfoldable pub amounts_planned : List Setting → Brought → Amounts
+unfoldable pub amounts_planned : List Setting → Brought → Option Amounts
 amounts_planned a r = amounts_guarded r.n (natural_at a cp) (factor_planned a r)
 
 -- the alarms and the factor of a cycle
@@ -39,10 +35,6 @@ unfoldable pub refusal_by : Bool → ℕ → Bool → ℕ → ℕ → Bool → �
 refusal_by sound last lengths time n large = first_of (
     (1, not (sound && lengths)) ∷ (5, ltb time last) ∷ (6, leb end_of_time time) ∷ (7, ltb most_pulses n) ∷ (14, large) ∷ [])
 
--- both amounts go to the main counters, or both to the disturbed ones, and to the totals
-unfoldable pub counted_by : Counters → Bool → Litres → BaseUnits → Counters
-counted_by c disturbed v b = counted c disturbed (Counted v b)
-
 -- what the outputs gain, by the rules as the code takes them
-unfoldable pub gained_planned : List Setting → Alarms → Amounts → List Output → AllGained
+unfoldable pub gained_planned : List Setting → Alarms → Option Amounts → List Output → AllGained
 gained_planned a found amounts o = outputs_gained (rule_guarded a) (any_alarm found) amounts o

@@ -1,34 +1,37 @@
 -- The whole message in a buffer: STX, the body and the check, one after another.
 -- Assumes nothing.
 use mathlib.Core.Path.{◌≡◌, ap, ◌∙◌}
-use mathlib.Core.List.{List}
-use Prim.Native.Nat.{ℕ, ◌≤◌, ◌<◌}
+use mathlib.Core.List.{List, [], ◌∷◌}
+use Prim.Native.Nat.{ℕ, ◌+◌, ◌-◌, ◌≤◌, ◌<◌}
 use native.Mathlib.Omega.{arith}
 use borrow.Author.Tests.{le-ltb, lt-ltb}
-use lib.ListN.{length, take, drop, set, length-set}
+use lib.ListN.{length, take, drop}
 use Rattle.spelling.specs.Spelling.{Put}
-use Rattle.spelling.proofs.Puts.{byte, two, at_front, next_is, behind_it}
+use Rattle.spelling.specs.declared.cursor.Cursor.{Cursor}
+use Rattle.spelling.specs.Cursor.{Appends}
+use Rattle.spelling.proofs.Puts.{at_front, next_is, behind_it}
+use Rattle.spelling.proofs.Appended.{two}
 use Rattle.message.specs.declared.Values.{Values}
 use Rattle.message.specs.Message.{stx, body, xor_of, check, message, size, written}
-use Rattle.message.proofs.Laws.{length_body}
+use Rattle.message.proofs.Laws.{length_body, length_message}
 
-module _ (v : Values) (old mid : List ℕ) (next : ℕ) (h : size ≤ length old) (p : Put 154 (set old 0 stx) mid 1 next (body v)) where
-  ends_at : next ≡ 155
-  ends_at = next_is p (length_body v)
+-- what is checked is the body
+module _ (v : Values) (old front held new : Cursor) (p : Appends 1 old front (stx ∷ [])) (q : Appends 154 front held (body v)) (h : front.at ≤ length front.out.now) where
+  checked : take (held.at - front.at) (drop front.at held.out.now) ≡ body v
+  checked =
+      let end : held.at ≡ front.at + 154 = next_is q.put (length_body v) in
+      let long : held.at - front.at ≡ 154 = omega arith in
+      rw long (behind_it 154 (rw end at q.put) (length_body v) h)
 
-  pub long : length mid ≡ length old
-  long = p.room ∙ length-set old 0 stx
+  pub whole : (c : ℕ) → c ≡ xor_of (take (held.at - front.at) (drop front.at held.out.now)) → Appends 1 held new (c ∷ []) → Appends 156 old new (message v)
+  unfolding message check
+  whole c e r =
+      let is : c ≡ xor_of (body v) = e ∙ ap xor_of checked in
+      two 156 (omega arith) p (two 155 (omega arith) q (rw is at r))
 
-  -- what is checked is the body
-  pub checked : take 154 (drop 1 mid) ≡ body v
-  checked = behind_it 154 (rw ends_at at p) (length_body v) (omega (arith, length-set old 0 stx))
-
-  pub whole : (c : ℕ) → c ≡ xor_of (take 154 (drop 1 mid)) → set mid 155 c ≡ written v old
-  unfolding written message check
-  whole c e =
-      let is : c ≡ check v = e ∙ ap xor_of checked in
-      let all = two 156 (omega arith) (byte old 0 stx (omega arith)) (two 155 (omega arith) (rw ends_at at p) (byte mid 155 c (omega (arith, long)))) in
-      rw (le-ltb (length old) size h, ← is) (at_front all)
+pub in_buffer : (v : Values) (old new : List ℕ) (next : ℕ) → size ≤ length old → Put 156 old new 0 next (message v) → new ≡ written v old
+unfolding written
+in_buffer v old new next h p = let n : next ≡ 156 = next_is p (length_message v) in rw (le-ltb (length old) size h) (rw n at (at_front p))
 
 pub too_short : (v : Values) (old : List ℕ) → length old < size → old ≡ written v old
 unfolding written

@@ -2,12 +2,15 @@
 // from the bytes as they stand.
 #![tactic(auto)]
 
-ghost use Rattle.std.specs.Prelude.{◌≡◌, ◌+◌, ◌≤◌, length};
-ghost use Rattle.spelling.specs.Spelling.{Put, digits};
-ghost use Rattle.message.specs.Message.{line, body, xor_of, written};
+ghost use Rattle.std.specs.Prelude.{◌≡◌, [], ◌∷◌, length};
+ghost use Rattle.spelling.specs.Spelling.{digits};
+ghost use Rattle.spelling.specs.Cursor.{HasRoom, Appends};
+ghost use Rattle.message.specs.Message.{line, body, xor_of, message, written};
+
+use spelling::cursor::Cursor;
 
 // Litres, in the order of the message's lines. A value has room below 10^12; of a larger one the last twelve digits are written.
-#[derive(Clone, Copy)]
+#[derive(Clone, Copy, PartialEq, Eq)]
 pub struct Values {
     pub vb: u64,
     pub vbd: u64,
@@ -36,93 +39,84 @@ pub const VMD: [u8; 5] = *b"4:301";
 
 pub const VMT: [u8; 5] = *b"4:302";
 
-// What stands in every line, and what ends the message before its check.
-
-const OPENS: [u8; 1] = *b"(";
-
-const POINT: [u8; 1] = *b".";
-
-const CLOSES: [u8; 6] = *b"*m3)\r\n";
-
-const END: [u8; 4] = *b"!\r\n\x03";
-
-// The check stands last, and the body between STX and the check.
-const CHECK: usize = SIZE - 1;
-
 // The base of the digits.
 const TEN: u64 = 10;
 
-// Each of these puts its text at a place of `out` and answers the place after it.
+// What is put at the place of a cursor that has the room.
+// Stays: these three stand here and in text. A method that another crate calls asks nothing of its caller; here the room is known.
 
-fn put_text(out: &mut [u8], at: usize, text: &[u8]) -> usize
-    requires { at + length text.now ≤ length out.old }
-    ensures { Put (length text.now) out.old out.new at result text.now }
+fn put_byte(cursor: &mut Cursor<'_>, b: u8)
+    requires { HasRoom 1 cursor.old }
+    ensures { Appends 1 cursor.old cursor.new (b ∷ []) }
 {
-    let next = at + text.len();
-    spelling::text_into(&mut out[at..next], text);
-    next
+    cursor.put_byte(b);
 }
 
-fn put_digits(out: &mut [u8], at: usize, k: usize, n: u64) -> usize
-    requires { at + k ≤ length out.old }
-    ensures { Put k out.old out.new at result (digits 10 k n) }
+fn put_text(cursor: &mut Cursor<'_>, text: &[u8])
+    requires { HasRoom (length text.now) cursor.old }
+    ensures { Appends (length text.now) cursor.old cursor.new text.now }
 {
-    let next = at + k;
-    spelling::digits_into(&mut out[at..next], TEN, n);
-    next
+    cursor.put_text(text);
+}
+
+fn put_digits(cursor: &mut Cursor<'_>, k: usize, n: u64)
+    requires { HasRoom k cursor.old }
+    ensures { Appends k cursor.old cursor.new (digits 10 k n) }
+{
+    cursor.put_digits(TEN, k, n);
 }
 
 // A line: the address, and the value in nine digits, a point and three decimals.
-fn put_line(out: &mut [u8], at: usize, address: [u8; 5], litres: u64) -> usize
-    requires { at + 25 ≤ length out.old }
-    ensures { Put 25 out.old out.new at result (line address litres) }
+fn put_line(cursor: &mut Cursor<'_>, address: [u8; 5], litres: u64)
+    requires { HasRoom 25 cursor.old }
+    ensures { Appends 25 cursor.old cursor.new (line address litres) }
 {
-    let bracket = put_text(out, at, &address);
-    let value = put_text(out, bracket, &OPENS);
-    let point = put_digits(out, value, 9, litres / 1000);
-    let decimals = put_text(out, point, &POINT);
-    let unit = put_digits(out, decimals, 3, litres);
-    put_text(out, unit, &CLOSES)
+    put_text(cursor, &address);
+    put_byte(cursor, b'(');
+    put_digits(cursor, 9, litres / 1000);
+    put_byte(cursor, b'.');
+    put_digits(cursor, 3, litres);
+    put_text(cursor, b"*m3)\r\n");
 }
 
 // The six lines, and what ends the message before its check.
-fn put_body(out: &mut [u8], at: usize, v: Values) -> usize
-    requires { at + 154 ≤ length out.old }
-    ensures { Put 154 out.old out.new at result (body v) }
+fn put_body(cursor: &mut Cursor<'_>, v: Values)
+    requires { HasRoom 154 cursor.old }
+    ensures { Appends 154 cursor.old cursor.new (body v) }
 {
-    let second = put_line(out, at, VB, v.vb);
-    let third = put_line(out, second, VBD, v.vbd);
-    let fourth = put_line(out, third, VBT, v.vbt);
-    let fifth = put_line(out, fourth, VM, v.vm);
-    let sixth = put_line(out, fifth, VMD, v.vmd);
-    let end = put_line(out, sixth, VMT, v.vmt);
-    put_text(out, end, &END)
+    put_line(cursor, VB, v.vb);
+    put_line(cursor, VBD, v.vbd);
+    put_line(cursor, VBT, v.vbt);
+    put_line(cursor, VM, v.vm);
+    put_line(cursor, VMD, v.vmd);
+    put_line(cursor, VMT, v.vmt);
+    put_text(cursor, b"!\r\n\x03");
 }
 
 // The exclusive-or of all bytes of a part.
-#[tactic(auto, using(crate::proofs::Check::starts, crate::proofs::Check::takes_one))]
 fn xor_of(part: &[u8]) -> u8
     ensures { result ≡ xor_of part.now }
 {
-    let mut sum: u8 = 0;
-    let mut i: usize = 0;
-    while i < part.len() {
-        sum = sum ^ part[i];
-        i += 1;
-    }
-    sum
+    part.iter().fold(0, |sum, b| sum ^ *b)
+}
+
+fn put_message(cursor: &mut Cursor<'_>, v: Values)
+    requires { HasRoom 156 cursor.old }
+    ensures { Appends 156 cursor.old cursor.new (message v) }
+{
+    put_byte(cursor, STX);
+    let start = cursor.at;
+    put_body(cursor, v);
+    let check = xor_of(cursor.put_since(start));
+    put_byte(cursor, check);
 }
 
 // Writes the message at the front of a buffer. Bytes past it stay, and so does a buffer that is too short.
-#[tactic(auto, using(crate::proofs::Whole::long, crate::proofs::Whole::whole, crate::proofs::Whole::too_short))]
+#[tactic(auto, using(crate::proofs::Whole::in_buffer, crate::proofs::Whole::too_short))]
 pub fn write(values: Values, buffer: &mut [u8])
     ensures { buffer.new ≡ written values buffer.old }
 {
     if SIZE <= buffer.len() {
-        buffer[0] = STX;
-        put_body(buffer, 1, values);
-        let check = xor_of(&buffer[1..CHECK]);
-        buffer[CHECK] = check;
-        return;
+        put_message(&mut Cursor { out: buffer, at: 0 }, values);
     }
 }

@@ -13,18 +13,18 @@ mod order;
 mod rows;
 mod values;
 
-use print::Printer;
 use std::io;
+use std::io::{BufWriter, Write};
 
 fn main(rt: HostRuntime) -> io::Result<()> {
-    let mut out = Printer::new(&rt)?;
-    clauses::run(&mut out);
-    accounts::run(&mut out);
-    values::run(&mut out);
-    rows::run(&mut out);
-    lengths::run(&mut out);
-    order::run(&mut out);
-    buffers::run(&mut out);
-    captured::run(&mut out);
-    out.finish()
+    let mut out = BufWriter::new(rt.alloc(), rt.stdout())?;
+    clauses::run(&mut out)?;
+    accounts::run(&mut out)?;
+    values::run(&mut out)?;
+    rows::run(&mut out)?;
+    lengths::run(&mut out)?;
+    order::run(&mut out)?;
+    buffers::run(&mut out)?;
+    captured::run(&mut out)?;
+    out.flush()
 }

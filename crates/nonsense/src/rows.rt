@@ -1,119 +1,119 @@
 // What is tried of each setting, from the rows of the table: writes of both ends of its range, of one past each and of the wrong kind; and a commit of this setting alone with
 // each set of open locks.
 use commands::{Act, Command};
-use print::{
-    Printer, end, flag, float, infinity, not_a_number, number, one_above, one_below, signed, text,
-    title,
-};
+use print::{Bits, Out, YesNo};
 use settings::Value;
 use settings::table::{Row, row_of};
 use state::State;
+use std::fmt::Display;
+use std::io::Write;
+use std::{fmt, io};
 use trials::base::{locks, one_session};
 use trials::change;
 use trials::change::not_whole;
 use trials::trial::put_exact;
 
-// As the bench has it: w and a whole number, or c and the bits of a float.
-pub fn value(out: &mut Printer, v: Value) {
-    match v {
-        Value::Whole(n) => {
-            text(out, b" w");
-            signed(out, n);
+// A value as the bench has it: w and a whole number, or c and the bits of a float.
+#[derive(Clone, Copy)]
+pub struct BenchValue(pub Value);
+
+impl Display for BenchValue {
+    fn fmt<W: fmt::Write>(&self, f: &mut fmt::Formatter<W>) -> fmt::Result {
+        match self.0 {
+            Value::Whole(n) => write!(f, "w {n}"),
+            Value::Coefficient(x) => write!(f, "c {}", Bits(x)),
         }
-        Value::Coefficient(x) => {
-            text(out, b" c");
-            float(out, x);
-        }
     }
 }
 
-fn write(out: &mut Printer, s: State, door: u64, r: Row, v: Value) {
-    text(out, b"  write");
-    number(out, door);
-    number(out, r.number);
-    value(out, v);
-    text(out, b":");
-    put_exact(out, s, Command::Call(door, Act::Write(r.number, v)));
-    end(out);
-}
-
-fn writes_of_whole(out: &mut Printer, s: State, door: u64, r: Row) {
-    write(out, s, door, r, Value::Whole(one_below(r.lowest)));
-    write(out, s, door, r, Value::Whole(r.lowest));
-    write(out, s, door, r, Value::Whole(r.highest));
-    write(out, s, door, r, Value::Whole(one_above(r.highest)));
-    write(out, s, door, r, Value::Coefficient(1.0));
-}
-
-fn writes_of_coefficient(out: &mut Printer, s: State, door: u64, r: Row) {
-    write(out, s, door, r, Value::Coefficient(-1.7976931348623157e308));
-    write(out, s, door, r, Value::Coefficient(1.7976931348623157e308));
-    write(out, s, door, r, Value::Coefficient(infinity()));
-    write(out, s, door, r, Value::Coefficient(-infinity()));
-    write(out, s, door, r, Value::Coefficient(not_a_number()));
-    write(out, s, door, r, Value::Whole(0));
-}
-
-fn writes(out: &mut Printer, s: State, door: u64, k: usize) {
-    let r = row_of(k);
-    if r.coefficient {
-        writes_of_coefficient(out, s, door, r);
-    } else {
-        writes_of_whole(out, s, door, r);
-    }
-}
-
-fn every_write(out: &mut Printer, s: State, door: u64) {
-    for k in 0..settings::COUNT {
-        writes(out, s, door, k);
-    }
-}
-
-// With the locks as three binary digits, the calibration lock first.
-fn commit(out: &mut Printer, s: State, r: Row, digits: u64) {
-    let cal = digits / 4 % 2 == 1;
-    let sup = digits / 2 % 2 == 1;
-    let cust = digits % 2 == 1;
-    text(out, b"  commit of");
-    number(out, r.number);
-    flag(out, cal);
-    flag(out, sup);
-    flag(out, cust);
-    text(out, b":");
-    put_exact(
+fn write(out: &mut Out, s: State, door: u64, number: u64, v: Value) -> io::Result<()> {
+    let c = Command::Call(door, Act::Write(number, v));
+    writeln!(
         out,
-        change::locks(s, locks(cal, sup, cust)),
-        Command::Commit(1),
-    );
-    end(out);
+        "  write {door} {number} {}: {}",
+        BenchValue(v),
+        put_exact(s, c)
+    )
 }
 
-fn with_each_set(out: &mut Printer, s: State, r: Row) {
-    for digits in 0..8 {
-        commit(out, s, r, digits);
+fn writes(out: &mut Out, s: State, door: u64, r: Row) -> io::Result<()> {
+    if let Some(range) = r.range {
+        for v in [
+            Value::Whole(range.lowest.saturating_sub(1)),
+            Value::Whole(range.lowest),
+            Value::Whole(range.highest),
+            Value::Whole(range.highest.saturating_add(1)),
+            Value::Coefficient(1.0),
+        ] {
+            write(out, s, door, r.number, v)?;
+        }
+    } else {
+        for v in [
+            Value::Coefficient(f64::MIN),
+            Value::Coefficient(f64::MAX),
+            Value::Coefficient(f64::INFINITY),
+            Value::Coefficient(f64::NEG_INFINITY),
+            Value::Coefficient(f64::NAN),
+            Value::Whole(0),
+        ] {
+            write(out, s, door, r.number, v)?;
+        }
     }
+    Ok(())
 }
+
+fn every_write(out: &mut Out, s: State, door: u64) -> io::Result<()> {
+    for k in 0..settings::COUNT {
+        writes(out, s, door, row_of(k))?;
+    }
+    Ok(())
+}
+
+// The calibration lock, the supplier's and the customer's.
+const EACH_SET: [(bool, bool, bool); 8] = [
+    (false, false, false),
+    (false, false, true),
+    (false, true, false),
+    (false, true, true),
+    (true, false, false),
+    (true, false, true),
+    (true, true, false),
+    (true, true, true),
+];
 
 // The factory value is staged, and the locks stand in each way.
-fn commits(out: &mut Printer, k: usize) {
+fn commits(out: &mut Out, k: usize) -> io::Result<()> {
     let r = row_of(k);
-    let v = r.factory;
-    with_each_set(out, change::staged_alone(one_session(), k, v), r);
-}
-
-fn every_commit(out: &mut Printer) {
-    for k in 0..settings::COUNT {
-        commits(out, k);
+    let s = change::staged_alone(one_session(), k, r.factory);
+    for (cal, sup, cust) in EACH_SET {
+        let open = change::locks(s, locks(cal, sup, cust));
+        writeln!(
+            out,
+            "  commit of {} {} {} {}: {}",
+            r.number,
+            YesNo(cal),
+            YesNo(sup),
+            YesNo(cust),
+            put_exact(open, Command::Commit(1))
+        )?;
     }
+    Ok(())
 }
 
-pub fn run(out: &mut Printer) {
-    title(out, b"each setting written");
-    every_write(out, one_session(), 1);
-    title(out, b"each setting written at a door with no session");
-    every_write(out, one_session(), 2);
-    title(out, b"each setting written, month 39");
-    every_write(out, not_whole(one_session()), 1);
-    title(out, b"each setting committed alone with these locks open");
-    every_commit(out);
+fn every_commit(out: &mut Out) -> io::Result<()> {
+    for k in 0..settings::COUNT {
+        commits(out, k)?;
+    }
+    Ok(())
+}
+
+pub fn run(out: &mut Out) -> io::Result<()> {
+    writeln!(out, "each setting written")?;
+    every_write(out, one_session(), 1)?;
+    writeln!(out, "each setting written at a door with no session")?;
+    every_write(out, one_session(), 2)?;
+    writeln!(out, "each setting written, month 39")?;
+    every_write(out, not_whole(one_session()), 1)?;
+    writeln!(out, "each setting committed alone with these locks open")?;
+    every_commit(out)
 }

@@ -1,7 +1,7 @@
 -- Pulses that go to the buffer one number after another are as their sum: in what waits, in what is lost and in whether some is lost.
 -- Assumes nothing.
-use Rattle.std.proofs.Common.{◌≡◌, ℕ, ◌+◌, ◌-◌, ◌%◌, ◌<◌, ◌≤◌, min, Bool, true, ◌||◌, ltb, sym, refl, ap, ◌∙◌, add_assoc, mod-eq_of_lt, arith, ltb-false, ltb-true, le-ltb, lt-ltb}
-use mathlib.Core.Bool.{or_assoc, or-false, or-true}
+use Rattle.std.proofs.Common.{◌≡◌, ℕ, ◌+◌, ◌-◌, ◌%◌, ◌<◌, ◌≤◌, min, Bool, ◌||◌, ltb, sym, refl, ap, ◌∙◌, add_assoc, mod-eq_of_lt, arith, ltb-false, ltb-true, le-ltb, lt-ltb}
+use mathlib.Core.Bool.{or_assoc, or-false}
 use native.Mathlib.Nat.{mod-add-mod, add-mod-mod}
 use Rattle.ground.proofs.Flags.{Either, is_true, is_false, either_of}
 use Rattle.outputs.specs.declared.Buffer.{Buffer}
@@ -58,15 +58,22 @@ module _ (due : ℕ) (b : Buffer) (held : b.waiting ≤ most_waiting) where
       (sym (ap (λ (n : ℕ). n % lost_rollover) e ∙ mod-eq_of_lt l))
       (sym (ap (λ (t : Bool). b.over || t) (le-ltb most_waiting (b.waiting + due) (omega arith)) ∙ or-false b.over))
 
-  pub push_over : most_waiting - b.waiting < due
-      → ◌≡◌ {A = Buffer} (record { waiting = most_waiting; lost = (b.lost + (due - (most_waiting - b.waiting)) % lost_rollover) % lost_rollover; over = true }) (pushed due b)
+  -- what is past the room is lost
+  pub push_is : ◌≡◌ {A = Buffer}
+      (record { waiting = b.waiting + min due (most_waiting - b.waiting); lost = (b.lost + (due - (most_waiting - b.waiting)) % lost_rollover) % lost_rollover; over = b.over || ltb 0 (due - (most_waiting - b.waiting)) })
+      (pushed due b)
   unfolding pushed
-  push_over h =
+  push_is =
       let e : due - (most_waiting - b.waiting) ≡ b.waiting + due - most_waiting = omega arith in
+      let t : ltb 0 (due - (most_waiting - b.waiting)) ≡ ltb most_waiting (b.waiting + due) = same_test (either_of (ltb most_waiting (b.waiting + due))) in
       buffer_is
       (omega arith)
       (add-mod-mod b.lost (due - (most_waiting - b.waiting)) lost_rollover ∙ ap (λ (n : ℕ). (b.lost + n) % lost_rollover) e)
-      (sym (ap (λ (t : Bool). b.over || t) (lt-ltb most_waiting (b.waiting + due) (omega arith)) ∙ or-true b.over))
+      (ap (λ (t : Bool). b.over || t) t)
+    where
+      same_test : Either (ltb most_waiting (b.waiting + due)) → ltb 0 (due - (most_waiting - b.waiting)) ≡ ltb most_waiting (b.waiting + due)
+      same_test (is_true h) = let l = ltb-true most_waiting (b.waiting + due) h in lt-ltb 0 (due - (most_waiting - b.waiting)) (omega arith) ∙ sym h
+      same_test (is_false h) = let l = ltb-false most_waiting (b.waiting + due) h in le-ltb 0 (due - (most_waiting - b.waiting)) (omega arith) ∙ sym h
 
 -- no pulse leaves the buffer as it is
 pub push_none : (b : Buffer) → b.waiting ≤ most_waiting → b.lost < lost_rollover → b ≡ pushed 0 b

@@ -1,15 +1,17 @@
 -- What the test of one output says; and a gain, a tick and a commit leave a whole output whole.
 -- Assumes nothing.
-use Rattle.std.proofs.Common.{◌≡◌, ℕ, ◌+◌, ◌<◌, ◌≤◌, true, cond, ◌&&◌, eqb, ltb, leb, refl, mod-lt, zero-mul, arith, ltb-true, lt-ltb, eq-eqb, ne_eqb, eqb-true, le-leb, leb-true}
+use Rattle.std.proofs.Common.{◌≡◌, ℕ, ◌+◌, ◌*◌, ◌/◌, ◌<◌, ◌≤◌, true, false, cond, ◌&&◌, eqb, ltb, leb, refl, mod-lt, zero-mul, mul-le-mul, arith, ltb-true, ltb-false, lt-ltb, le-ltb, eq-eqb, ne_eqb, eqb-true, le-leb, leb-true, Some, None}
+use Rattle.std.proofs.Math.Nat.{div-lt_iff_lt-mul, div-mul-le_self, le_refl, mul_comm}
 use borrow.Author.Tests.{eqb-false}
 use Rattle.ground.specs.Ranges.{least_weight}
 use Rattle.ground.proofs.Flags.{and_left, and_right, and_both, Either, is_true, is_false, either_of}
 use Rattle.settings.specs.Settings.{most_choice}
+use Rattle.units.specs.declared.Counter.{Counter}
 use Rattle.outputs.specs.declared.Rule.{Rule}
 use Rattle.outputs.specs.declared.Gain.{Gain}
 use Rattle.outputs.specs.declared.Output.{Output}
-use Rattle.outputs.specs.Outputs.{choices, followed, litre_in, weight_in, gain_in, rest_of, most_waiting, lost_rollover, credited_by, gained_by, ticked_by, same_rule, emptied, committed_by, account_b, output_b}
-use Rattle.outputs.proofs.Choices.{weight_some}
+use Rattle.outputs.specs.Outputs.{choices, followed, litre_on, litre_in, weight_in, gain_in, rest_of, most_waiting, lost_rollover, credited_by, gained_by, ticked_by, same_rule, emptied, committed_by, account_b, output_b}
+use Rattle.outputs.proofs.Choices.{not_off, weight_on, none_weighs, litre_on_lem, weight_some}
 use Rattle.outputs.proofs.Wholes.{rest_below}
 
 -- ---- what the test says
@@ -39,6 +41,27 @@ is_whole r o h = and_both (and_both {a = account_b r o} (by (either_of (eqb r.ch
     by : Either (eqb r.choice 0) → account_b r o ≡ true
     by (is_true e) = rw e (eq-eqb o.account.0 0 (h.off (eqb-true r.choice 0 e)))
     by (is_false e) = rw e (lt-ltb o.account.0 (weight_in r) (h.below (eqb-false r.choice 0 e)))
+
+-- the test in whole litres, where a counter is followed
+pub whole_on : (r : Rule) (o : Output) (c : Counter) → followed r.choice ≡ Some c → o.waiting ≤ most_waiting → o.lost < lost_rollover → ltb (o.account.0 / litre_on c) r.weight ≡ output_b r o
+unfolding output_b account_b
+whole_on r o c e w l =
+    let some : 0 < litre_on c = omega (arith, litre_on_lem c) in
+    rw (ne_eqb r.choice 0 (not_off r c e), weight_on r c e, le-leb o.waiting most_waiting w, lt-ltb o.lost lost_rollover l) (by some (either_of (ltb (o.account.0 / litre_on c) r.weight)))
+  where
+    by : 0 < litre_on c → Either (ltb (o.account.0 / litre_on c) r.weight) → ltb (o.account.0 / litre_on c) r.weight ≡ (ltb o.account.0 (litre_on c * r.weight) && true && true)
+    by some (is_true t) =
+        let h = (div-lt_iff_lt-mul some).0 (ltb-true (o.account.0 / litre_on c) r.weight t) in
+        simp (t, lt-ltb o.account.0 (litre_on c * r.weight) (omega (arith, mul_comm (litre_on c) r.weight)))
+    by some (is_false t) =
+        let h : r.weight ≤ o.account.0 / litre_on c = ltb-false (o.account.0 / litre_on c) r.weight t in
+        let u = mul-le-mul h (le_refl (litre_on c)) in
+        simp (t, le-ltb o.account.0 (litre_on c * r.weight) (omega (arith, u, mul_comm (litre_on c) r.weight, div-mul-le_self o.account.0 (litre_on c))))
+
+-- and where a choice is none
+pub none_whole : (r : Rule) (o : Output) → followed r.choice ≡ None → (r.choice ≡ 0 → ⊥) → output_b r o ≡ false
+unfolding output_b account_b
+none_whole r o e z = simp (ne_eqb r.choice 0 z, none_weighs r e, le-ltb o.account.0 0 (omega arith))
 
 -- ---- a gain
 

@@ -1,6 +1,6 @@
 -- The four outputs, each by the rule of one. Document 02, Three. Outputs are numbered from 0 here; output k is output k + 1 on paper.
 -- Assumes nothing.
-use Rattle.std.specs.Prelude.{ℕ, ◌+◌, Bool, false, List, [], ◌∷◌, replicate, slice_index, slice_index_or}
+use Rattle.std.specs.Prelude.{ℕ, ◌+◌, Bool, false, List, replicate, slice_index_or}
 use Rattle.ground.specs.Below.{all_below, listed}
 use Rattle.settings.specs.declared.Setting.{Setting}
 use Rattle.settings.specs.Settings.{natural_at, first_choice, first_weight}
@@ -10,8 +10,6 @@ use Rattle.outputs.specs.declared.Output.{Output}
 use Rattle.outputs.specs.declared.AllGained.{AllGained}
 use Rattle.outputs.specs.declared.AllTicked.{AllTicked}
 use Rattle.outputs.specs.declared.Shown.{Shown}
-use Rattle.outputs.specs.declared.Emitted.{Emitted}
-use Rattle.outputs.specs.declared.AllShown.{AllShown}
 use Rattle.outputs.specs.Outputs.{gained_by, ticked_by, committed_by, output_b, fresh_output, output_shown}
 
 abbrev pub output_count : ℕ
@@ -59,17 +57,3 @@ fresh_outputs = replicate output_count fresh_output
 
 unfoldable pub all_shown : (ℕ → Rule) → List Output → List Shown
 all_shown rules o = listed (λ k. output_shown (rules k) (output_at o k)) output_count
-
--- ---- side by side, as they are answered
-
-abbrev pub emitted_of : List ℕ → Emitted
-emitted_of e = record { one = slice_index e 0; two = slice_index e 1; three = slice_index e 2; four = slice_index e 3 }
-
-abbrev pub numbers_of : Emitted → List ℕ
-numbers_of e = e.one ∷ e.two ∷ e.three ∷ e.four ∷ []
-
-abbrev pub none_shown : Shown
-none_shown = record { account = 0; waiting = 0; lost = 0 }
-
-abbrev pub shown_of : List Shown → AllShown
-shown_of all = record { one = slice_index_or all 0 none_shown; two = slice_index_or all 1 none_shown; three = slice_index_or all 2 none_shown; four = slice_index_or all 3 none_shown }

@@ -1,7 +1,9 @@
 -- The rule of one pulse output. Document 02, Three, in its order.
 -- Assumes nothing.
-use Rattle.std.specs.Prelude.{ℕ, ◌+◌, ◌-◌, ◌*◌, ◌/◌, ◌%◌, min, Bool, cond, ◌&&◌, List, [], ◌∷◌, ◌==◌, nat_le, nat_lt, slice_index_or}
-use Rattle.units.specs.Units.{litre_at_base, Counter, Vm, VmD, VmT, Vb, VbD, VbT, put_by}
+use Rattle.std.specs.Prelude.{ℕ, ◌+◌, ◌-◌, ◌*◌, ◌/◌, ◌%◌, min, Bool, cond, ◌&&◌, List, [], ◌∷◌, ◌==◌, nat_le, nat_lt, slice_index_or, Option, Some, None}
+use Rattle.units.specs.declared.Counter.{Counter}
+use Rattle.units.specs.declared.Counter.TheVariants.{Vm, VmD, VmT, Vb, VbD, VbT}
+use Rattle.units.specs.Units.{litre_at_base, put_by}
 use Rattle.outputs.specs.declared.Account.{Account}
 use Rattle.outputs.specs.declared.Rule.{Rule}
 use Rattle.outputs.specs.declared.Gain.{Gain}
@@ -12,16 +14,16 @@ use Rattle.outputs.specs.declared.Shown.{Shown}
 
 -- ---- "each off or following one of Vm, VmD, VmT, Vb, VbD, VbT", "choices 0..6 in the order above"
 
-pub data Followed : Type 0 where
-  Off : Followed
-  Follows : Counter → Followed
+-- a counter, or none where the output is off
+abbrev pub Followed : Type 0
+Followed = Option Counter
 
 unfoldable pub choices : List Followed
-choices = Off ∷ Follows Vm ∷ Follows VmD ∷ Follows VmT ∷ Follows Vb ∷ Follows VbD ∷ Follows VbT ∷ []
+choices = None ∷ Some Vm ∷ Some VmD ∷ Some VmT ∷ Some Vb ∷ Some VbD ∷ Some VbT ∷ []
 
 -- a number above 6 is no choice, and follows nothing
 unfoldable pub followed : ℕ → Followed
-followed choice = slice_index_or choices choice Off
+followed choice = slice_index_or choices choice None
 
 -- ---- "with a weight of 1 to 1,000,000 litres a pulse"
 
@@ -36,8 +38,8 @@ litre_on VbT = litre_at_base
 
 -- a litre in the unit of the counter that is followed; an output that is off has no unit, and 0 stands for it
 unfoldable pub litre_in : Followed → ℕ
-litre_in Off = 0
-litre_in (Follows c) = litre_on c
+litre_in None = 0
+litre_in (Some c) = litre_on c
 
 -- the weight in that unit
 unfoldable pub weight_in : Rule → ℕ
@@ -46,8 +48,8 @@ weight_in r = litre_in (followed r.choice) * r.weight
 -- ---- "What a counter gains in an accepted cycle", "Gains are taken before the rollover"
 
 unfoldable pub gain_by : Followed → Gain → ℕ
-gain_by Off g = 0
-gain_by (Follows c) g = put_by c g.disturbed g.litres.0 g.base.0
+gain_by None g = 0
+gain_by (Some c) g = put_by c g.disturbed g.litres.0 g.base.0
 
 -- what is gained by the counter of a choice, in its own unit
 abbrev pub gain_in : ℕ → Gain → ℕ

@@ -2,7 +2,7 @@
 -- line with a code. Document 01, "Doors, sessions, locks", "Books" and "Number on the fault card"; document 02, Three, Five and Seven.
 -- Assumes nothing.
 use Rattle.std.specs.Prelude.{ℕ, ◌+◌, Bool, true, false, not, cond, ◌&&◌, ◌||◌, List, [], ◌∷◌, ◌++◌, length, drop, ltb, leb, eqb}
-use Rattle.outputs.specs.Four.{rule_at, all_ticked, most_tick, all_shown, emitted_of, shown_of}
+use Rattle.outputs.specs.Four.{rule_at, all_ticked, most_tick, all_shown}
 use Rattle.calendar.specs.Calendar.{end_of_time}
 use Rattle.units.specs.Units.{whole_litres}
 use Rattle.message.specs.declared.Values.{Values}
@@ -158,7 +158,7 @@ ticked s n = record {
 unfoldable pub tick_by : Bool → State → ℕ → Answer
 tick_by sound s n =
     let number = tick_refusal sound n in
-    record { reply = giving number (given.Emitted (emitted_of (all_ticked n s.core.outputs).emitted)); state = cond (eqb number 0) (ticked s n) s }
+    record { reply = giving number (given.Emitted (all_ticked n s.core.outputs).emitted); state = cond (eqb number 0) (ticked s n) s }
 
 abbrev pub tick_of : State → ℕ → Answer
 tick_of s n = tick_by (whole_b s) s n
@@ -188,7 +188,7 @@ report_of s = report_by (whole_b s) s
 
 -- account, waiting and lost of each output; refused by 1 alone
 unfoldable pub outputs_of : State → Reply
-outputs_of s = giving (report_refusal (whole_b s)) (given.Outputs (shown_of (all_shown (rule_at s.core.settings) s.core.outputs)))
+outputs_of s = giving (report_refusal (whole_b s)) (given.Outputs (all_shown (rule_at s.core.settings) s.core.outputs))
 
 -- ---- readout (document 02, Five)
 

@@ -15,9 +15,10 @@ use Rattle.spelling.proofs.Alike.{same_true, same_itself}
 use Rattle.message.specs.declared.Values.{Values}
 use Rattle.message.specs.Message.{message, check, size, written, Fits}
 use Rattle.message.proofs.Laws.{length_message}
-use Rattle.reader.specs.declared.Parsed.{Parsed}
-use Rattle.reader.specs.declared.Parsed.TheVariants.{Accepted, Refused}
-use Rattle.reader.specs.Reader.{check_at, Form, Reads, accepted, wrong_check, not_of_form, values_on, of_form, answer_by, parsed, parsed_number}
+use Rattle.std.specs.Prelude.{Result, Ok, Err}
+use Rattle.reader.specs.declared.Unread.{Unread}
+use Rattle.reader.specs.declared.Unread.TheVariants.{NotAMessage, WrongCheck}
+use Rattle.reader.specs.Reader.{check_at, Form, Reads, accepted, wrong_check, not_of_form, values_on, of_form, answer_by, parsed}
 use Rattle.reader.proofs.Compared.{other_length, check_last}
 use Rattle.reader.proofs.Back.{values_back, values_fit}
 
@@ -47,15 +48,15 @@ one_form b v w f g = sym (form_found b v f).1 ∙ (form_found b w g).1
 
 -- ---- the rule and what is worked out
 
-right_is : (b : List ℕ) (v : Values) → Form b v → get_or b check_at 0 ≡ check v → Accepted v ≡ parsed b
+right_is : (b : List ℕ) (v : Values) → Form b v → get_or b check_at 0 ≡ check v → Ok v ≡ parsed b
 unfolding parsed answer_by
 right_is b v f c = let found = form_found b v f in rw (found.0, found.1, eq-eqb (get_or b check_at 0) (check v) c)
 
-wrong_is : (b : List ℕ) (v : Values) → Form b v → (get_or b check_at 0 ≡ check v → ⊥) → Refused 18 ≡ parsed b
+wrong_is : (b : List ℕ) (v : Values) → Form b v → (get_or b check_at 0 ≡ check v → ⊥) → Err WrongCheck ≡ parsed b
 unfolding parsed answer_by
 wrong_is b v f c = let found = form_found b v f in rw (found.0, found.1, ne_eqb (get_or b check_at 0) (check v) c)
 
-none_is : (b : List ℕ) → of_form b ≡ false → Refused 17 ≡ parsed b
+none_is : (b : List ℕ) → of_form b ≡ false → Err NotAMessage ≡ parsed b
 unfolding parsed answer_by
 none_is b e = rw e
 
@@ -76,47 +77,47 @@ by_the_rule b = by_form (either_of (of_form b))
     by_form (is_false e) = rw (← none_is b e) (not_of_form (λ v f. true≢false (sym (form_found b v f).0 ∙ e)))
 
 -- AND THE RULE HAS NO OTHER ANSWER
-pub only_answer : (b : List ℕ) (r : Parsed) → Reads b r → r ≡ parsed b
+pub only_answer : (b : List ℕ) (r : Result Values Unread) → Reads b r → r ≡ parsed b
 only_answer b r (accepted v f c) = right_is b v f c
 only_answer b r (wrong_check v f c) = wrong_is b v f c
 only_answer b r (not_of_form n) = by_form (either_of (of_form b))
   where
-    by_form : Either (of_form b) → Refused 17 ≡ parsed b
+    by_form : Either (of_form b) → Err NotAMessage ≡ parsed b
     by_form (is_true e) = absurd (n (values_on b) (form_tested b e))
     by_form (is_false e) = none_is b e
 
 -- 17 EXACTLY WHERE no six values have this form
-pub seventeen : (b : List ℕ) → parsed b ≡ Refused 17 → (v : Values) → Form b v → ⊥
+pub seventeen : (b : List ℕ) → parsed b ≡ Err NotAMessage → (v : Values) → Form b v → ⊥
 seventeen b e = by-rule (parsed b) (by_the_rule b) e
   where
-    by-rule : (r : Parsed) → Reads b r → r ≡ Refused 17 → (v : Values) → Form b v → ⊥
-    by-rule r (accepted w f c) q v g = let n : ◌≡◌ {A = ℕ} 0 17 = ap parsed_number q in omega arith
-    by-rule r (wrong_check w f c) q v g = let n : ◌≡◌ {A = ℕ} 18 17 = ap parsed_number q in omega arith
+    by-rule : (r : Result Values Unread) → Reads b r → r ≡ Err NotAMessage → (v : Values) → Form b v → ⊥
+    by-rule r (accepted w f c) q v g = cc
+    by-rule r (wrong_check w f c) q v g = cc
     by-rule r (not_of_form n) q v g = n v g
 
-pub otherwise_seventeen : (b : List ℕ) → ((v : Values) → Form b v → ⊥) → parsed b ≡ Refused 17
-otherwise_seventeen b n = sym (only_answer b (Refused 17) (not_of_form n))
+pub otherwise_seventeen : (b : List ℕ) → ((v : Values) → Form b v → ⊥) → parsed b ≡ Err NotAMessage
+otherwise_seventeen b n = sym (only_answer b (Err NotAMessage) (not_of_form n))
 
 -- 18 EXACTLY WHERE some six values have this form, and the last byte is not their check
-pub eighteen : (b : List ℕ) → parsed b ≡ Refused 18 → Form b (values_on b) × (get_or b check_at 0 ≡ check (values_on b) → ⊥)
+pub eighteen : (b : List ℕ) → parsed b ≡ Err WrongCheck → Form b (values_on b) × (get_or b check_at 0 ≡ check (values_on b) → ⊥)
 eighteen b e = by-rule (parsed b) (by_the_rule b) e
   where
-    by-rule : (r : Parsed) → Reads b r → r ≡ Refused 18 → Form b (values_on b) × (get_or b check_at 0 ≡ check (values_on b) → ⊥)
-    by-rule r (accepted v f c) q = let n : ◌≡◌ {A = ℕ} 0 18 = ap parsed_number q in absurd (omega arith)
+    by-rule : (r : Result Values Unread) → Reads b r → r ≡ Err WrongCheck → Form b (values_on b) × (get_or b check_at 0 ≡ check (values_on b) → ⊥)
+    by-rule r (accepted v f c) q = cc
     by-rule r (wrong_check v f c) q = rw (form_found b v f).1 (f, c)
-    by-rule r (not_of_form n) q = let m : ◌≡◌ {A = ℕ} 17 18 = ap parsed_number q in absurd (omega arith)
+    by-rule r (not_of_form n) q = cc
 
-pub otherwise_eighteen : (b : List ℕ) (v : Values) → Form b v → (get_or b check_at 0 ≡ check v → ⊥) → parsed b ≡ Refused 18
+pub otherwise_eighteen : (b : List ℕ) (v : Values) → Form b v → (get_or b check_at 0 ≡ check v → ⊥) → parsed b ≡ Err WrongCheck
 otherwise_eighteen b v f c = sym (wrong_is b v f c)
 
 -- ---- both round trips
 
 -- WHAT IS WRITTEN READS BACK
-pub reads_back : (v : Values) → Fits v → parsed (message v) ≡ Accepted v
+pub reads_back : (v : Values) → Fits v → parsed (message v) ≡ Ok v
 reads_back v f = sym (right_is (message v) v (record { fits = f; long = length_message v; same = refl }) (check_last v))
 
 -- also from a buffer of 156 bytes that was lent for it
-pub written_reads_back : (v : Values) (old : List ℕ) → Fits v → length old ≡ size → parsed (written v old) ≡ Accepted v
+pub written_reads_back : (v : Values) (old : List ℕ) → Fits v → length old ≡ size → parsed (written v old) ≡ Ok v
 unfolding written
 written_reads_back v old f l =
     rw (l, drop_of_length-le old {i = size} (omega arith), append-nil (message v)) (reads_back v f)
@@ -127,18 +128,14 @@ whole b v f c =
     let one : (l : List ℕ) → length l ≡ size → l ≡ take check_at l ++ (get_or l check_at 0 ∷ []) = λ l e. sym (take_all size l (omega arith)) ∙ take-suc l check_at 0 (omega arith) in
     one b f.long ∙ rw (f.same, c, ← check_last v) (sym (one (message v) (length_message v)))
 
-abbrev given : Parsed → Values
-given (Accepted v) = v
-given (Refused n) = record { vb = 0; vbd = 0; vbt = 0; vm = 0; vmd = 0; vmt = 0 }
-
 -- WHAT IS ACCEPTED IS WHAT IS WRITTEN for its values, byte for byte, and its values have at most twelve digits
-pub accepted_is_written : (b : List ℕ) (v : Values) → parsed b ≡ Accepted v → (b ≡ message v) × Fits v
+pub accepted_is_written : (b : List ℕ) (v : Values) → parsed b ≡ Ok v → (b ≡ message v) × Fits v
 accepted_is_written b v e = by-rule (parsed b) (by_the_rule b) e
   where
-    by-rule : (r : Parsed) → Reads b r → r ≡ Accepted v → (b ≡ message v) × Fits v
-    by-rule r (accepted w f c) q = let is : w ≡ v = ap given q in rw (← is) (whole b w f c, f.fits)
-    by-rule r (wrong_check w f c) q = let n : ◌≡◌ {A = ℕ} 18 0 = ap parsed_number q in absurd (omega arith)
-    by-rule r (not_of_form m) q = let n : ◌≡◌ {A = ℕ} 17 0 = ap parsed_number q in absurd (omega arith)
+    by-rule : (r : Result Values Unread) → Reads b r → r ≡ Ok v → (b ≡ message v) × Fits v
+    by-rule r (accepted w f c) q = let is : w ≡ v = (cc) in rw (← is) (whole b w f c, f.fits)
+    by-rule r (wrong_check w f c) q = cc
+    by-rule r (not_of_form m) q = cc
 
 -- ---- how much of the bytes decides
 

@@ -1,11 +1,18 @@
 -- The readout read back. Document 02, Six: bytes of any number are read into six values in litres, or refused.
 -- Assumes nothing.
-use Rattle.std.specs.Prelude.{ℕ, ◌+◌, ◌*◌, ◌≡◌, Bool, cond, ◌&&◌, List, eqb, length, get_or, take, drop}
+use Rattle.std.specs.Prelude.{ℕ, ◌+◌, ◌*◌, ◌≡◌, Bool, cond, ◌&&◌, List, eqb, length, get_or, take, drop, Result, Ok, Err}
 use Rattle.spelling.specs.Spelling.{same_b, spelled}
 use Rattle.message.specs.declared.Values.{Values}
 use Rattle.message.specs.Message.{message, check, size, Fits}
-use Rattle.reader.specs.declared.Parsed.{Parsed}
-use Rattle.reader.specs.declared.Parsed.TheVariants.{Accepted, Refused}
+use Rattle.reader.specs.declared.Unread.{Unread}
+use Rattle.reader.specs.declared.Unread.TheVariants.{NotAMessage, WrongCheck}
+
+-- ---- the two refusals
+
+-- the number that stands before each row of the card
+abbrev pub number_of : Unread → ℕ
+number_of NotAMessage = 17
+number_of WrongCheck = 18
 
 -- ---- the form
 
@@ -21,10 +28,10 @@ pub record Form (b : List ℕ) (v : Values) : Type 0 where
 
 -- THE RULE: which answer is right. "17, not of this form (its last byte aside)": there are no six values of which it is the form. "18, form right and check character
 -- wrong". "No values are returned" with either. Totals are not tested against their parts.
-pub data Reads (b : List ℕ) : Parsed → Type 0 where
-  accepted : (v : Values) → Form b v → get_or b check_at 0 ≡ check v → Reads b (Accepted v)
-  wrong_check : (v : Values) → Form b v → (get_or b check_at 0 ≡ check v → ⊥) → Reads b (Refused 18)
-  not_of_form : ((v : Values) → Form b v → ⊥) → Reads b (Refused 17)
+pub data Reads (b : List ℕ) : Result Values Unread → Type 0 where
+  accepted : (v : Values) → Form b v → get_or b check_at 0 ≡ check v → Reads b (Ok v)
+  wrong_check : (v : Values) → Form b v → (get_or b check_at 0 ≡ check v → ⊥) → Reads b (Err WrongCheck)
+  not_of_form : ((v : Values) → Form b v → ⊥) → Reads b (Err NotAMessage)
 
 -- ---- the six values
 
@@ -54,13 +61,13 @@ unfoldable pub of_form : List ℕ → Bool
 of_form b = eqb (length b) size && same_b (take check_at b) (take check_at (message (values_on b)))
 
 -- "17 before 18"
-unfoldable pub answer_by : Bool → Bool → Values → Parsed
-answer_by form right v = cond form (cond right (Accepted v) (Refused 18)) (Refused 17)
+unfoldable pub answer_by : Bool → Bool → Values → Result Values Unread
+answer_by form right v = cond form (cond right (Ok v) (Err WrongCheck)) (Err NotAMessage)
 
-unfoldable pub parsed : List ℕ → Parsed
+unfoldable pub parsed : List ℕ → Result Values Unread
 parsed b = answer_by (of_form b) (eqb (get_or b check_at 0) (check (values_on b))) (values_on b)
 
 -- the number on the fault card: 0 where the message is accepted
-abbrev pub parsed_number : Parsed → ℕ
-parsed_number (Accepted v) = 0
-parsed_number (Refused n) = n
+abbrev pub parsed_number : Result Values Unread → ℕ
+parsed_number (Ok v) = 0
+parsed_number (Err e) = number_of e

@@ -4,24 +4,30 @@
 
 ghost use Rattle.std.specs.Prelude.{◌≡◌, ◌≤◌, ◌<◌, length, replicate};
 ghost use Rattle.message.specs.Message.{size};
-ghost use Rattle.reader.specs.Reader.{decimal_in, litres_on, values_on, answer_by, parsed};
+ghost use Rattle.reader.specs.Reader.{number_of, decimal_in, litres_on, values_on, parsed};
 
 use message::Values;
 
-// The six values, or the number of a refusal and no values.
-#[derive(Clone, Copy)]
-pub enum Parsed {
-    Accepted(Values),
-    Refused(u64),
+// Why bytes are refused.
+#[derive(Clone, Copy, PartialEq, Eq)]
+pub enum Unread {
+    // Not of the form of a message, its last byte aside.
+    NotAMessage,
+    // The form is right, and the check character is wrong.
+    WrongCheck,
 }
 
-// The numbers of the fault card that the reader alone gives.
-
-// Not of the form of a message, its last byte aside.
-pub const NOT_A_MESSAGE: u64 = 17;
-
-// The form is right, and the check character is wrong.
-pub const WRONG_CHECK: u64 = 18;
+impl Unread {
+    // The number on the fault card. The reader alone gives these two.
+    pub fn number(self) -> u64
+        ensures { result ≡ number_of self }
+    {
+        match self {
+            Unread::NotAMessage => 17,
+            Unread::WrongCheck => 18,
+        }
+    }
+}
 
 // The check stands last.
 const CHECK: usize = message::SIZE - 1;
@@ -38,11 +44,9 @@ fn number(part: &[u8]) -> u64
     requires { length part.now ≤ 12 }
     ensures { result ≡ decimal_in part.now }
 {
-    let mut value: u64 = 0;
-    let mut i: usize = 0;
-    while i < part.len() {
-        value = 10 * value + spelling::digit_of(part[i]);
-        i += 1;
+    let mut value = 0;
+    for &b in part {
+        value = 10 * value + spelling::digit_of(b);
     }
     value
 }
@@ -65,57 +69,33 @@ fn values_on(bytes: &[u8]) -> Values
     requires { size ≤ length bytes.now }
     ensures { result ≡ values_on bytes.now }
 {
-    let vb = litres_on(bytes, 0);
-    let vbd = litres_on(bytes, 1);
-    let vbt = litres_on(bytes, 2);
-    let vm = litres_on(bytes, 3);
-    let vmd = litres_on(bytes, 4);
-    let vmt = litres_on(bytes, 5);
     Values {
-        vb: vb,
-        vbd: vbd,
-        vbt: vbt,
-        vm: vm,
-        vmd: vmd,
-        vmt: vmt,
+        vb: litres_on(bytes, 0),
+        vbd: litres_on(bytes, 1),
+        vbt: litres_on(bytes, 2),
+        vm: litres_on(bytes, 3),
+        vmd: litres_on(bytes, 4),
+        vmt: litres_on(bytes, 5),
     }
 }
 
-// The form comes before the check.
-#[tactic(auto, unfolding(crate::specs::Reader::answer_by))]
-fn answer_by(form: bool, check: bool, values: Values) -> Parsed
-    ensures { result ≡ answer_by form check values }
-{
-    if form {
-        if check {
-            Parsed::Accepted(values)
-        } else {
-            Parsed::Refused(WRONG_CHECK)
-        }
-    } else {
-        Parsed::Refused(NOT_A_MESSAGE)
-    }
-}
-
-// Room for the message that should stand there.
-fn blank() -> [u8; message::SIZE]
-    ensures { result ≡ replicate size 0 }
-{
-    [0; message::SIZE]
-}
-
-// Reads any bytes. If some values have this message, they are those that its digits spell; so it is enough to compare with the message of these.
+// Reads any bytes. If some values have this message, they are those that its digits spell; so it is enough to compare with the message of these. The form comes before
+// the check.
 #[tactic(auto, using(crate::proofs::Compared::other_length))]
-pub fn parse(bytes: &[u8]) -> Parsed
+pub fn parse(bytes: &[u8]) -> Result<Values, Unread>
     ensures { result ≡ parsed bytes.now }
 {
     if bytes.len() != message::SIZE {
-        return Parsed::Refused(NOT_A_MESSAGE);
+        return Err(Unread::NotAMessage);
     }
     let values = values_on(bytes);
-    let mut expected = blank();
+    let mut expected = [0; message::SIZE];
     message::write(values, &mut expected);
-    let form = spelling::same(&bytes[0..CHECK], &expected[0..CHECK]);
-    let check = bytes[CHECK] == expected[CHECK];
-    answer_by(form, check, values)
+    if bytes[0..CHECK] != expected[0..CHECK] {
+        return Err(Unread::NotAMessage);
+    }
+    if bytes[CHECK] != expected[CHECK] {
+        return Err(Unread::WrongCheck);
+    }
+    Ok(values)
 }

@@ -2,171 +2,126 @@
 #![tactic(auto)]
 
 ghost use Rattle.std.specs.Prelude.{◌≡◌};
-ghost use Rattle.readings.specs.Taken.{taken_within};
+ghost use Rattle.std.specs.Ordering.{partial_le};
+ghost use Rattle.readings.specs.Taken.{no_alarm, alarm_with};
 ghost use Rattle.readings.specs.Pressure.{pressure_taken};
 ghost use Rattle.readings.specs.Compressibility.{k_taken};
-ghost use Rattle.readings.specs.Temperature.{temperature_taken, measured_taken};
-ghost use Rattle.readings.specs.Plan.{kelvin_guarded};
+ghost use Rattle.readings.specs.Temperature.{temperature_taken};
+ghost use Rattle.readings.specs.Plan.{kept_by, read_by, kelvin_guarded};
 
 use ground::ranges;
 
-#[derive(Clone, Copy)]
-pub enum RawTemperature {
-    Failed,
-    Raw(u16),
-}
-
-#[derive(Clone, Copy)]
-pub enum Pressure {
-    Failed,
-    Pascals(u64),
-}
-
-#[derive(Clone, Copy)]
-pub enum Compressibility {
-    NotComputed,
-    Computed(u64),
-}
-
 // What goes into the factor, and whether the alarm is present in this cycle.
 #[derive(Clone, Copy)]
-pub struct Taken {
+pub struct Taken<V> {
     pub alarm: bool,
-    pub value: u64,
+    pub value: V,
 }
 
-#[derive(Clone, Copy)]
-pub struct TakenTemperature {
-    pub alarm: bool,
-    pub value: i64,
-}
-
-#[tactic(auto, unfolding(crate::specs::Taken::taken_within))]
-fn taken_within(lowest: u64, highest: u64, fixed: u64, x: u64) -> Taken
-    ensures { result ≡ taken_within lowest highest fixed x }
+fn no_alarm<V>(value: V) -> Taken<V>
+    ensures { result ≡ no_alarm value }
 {
-    let low = x < lowest;
-    let high = highest < x;
-    if ground::either(low, high) {
-        return Taken {
-            alarm: true,
-            value: fixed,
-        };
-    }
     Taken {
         alarm: false,
-        value: x,
+        value,
     }
 }
 
-// In this order: Md.p, pMin, pMax, p.F and the reading.
-#[tactic(auto, unfolding(crate::specs::Pressure::pressure_taken, crate::specs::Pressure::pressure_read))]
-pub fn pressure_taken(mode: u64, lowest: u64, highest: u64, fixed: u64, reading: Pressure) -> Taken
+fn alarm_with<V>(fixed: V) -> Taken<V>
+    ensures { result ≡ alarm_with fixed }
+{
+    Taken {
+        alarm: true,
+        value: fixed,
+    }
+}
+
+// Outside lowest..highest, whose ends are inside: the alarm, and the fixed value.
+fn taken_within<V: PartialOrd + Copy>(lowest: V, highest: V, fixed: V, x: V) -> Taken<V>
+    ensures { result ≡ kept_by (partial_le V.partial_cmp) lowest highest fixed x }
+{
+    if (lowest..=highest).contains(&x) {
+        no_alarm(x)
+    } else {
+        alarm_with(fixed)
+    }
+}
+
+// None: the sensor failed, or the value was not computed.
+#[tactic(auto, unfolding(crate::specs::Plan::read_by))]
+fn read_within<V: PartialOrd + Copy>(
+    lowest: V,
+    highest: V,
+    fixed: V,
+    reading: Option<V>,
+) -> Taken<V>
+    ensures { result ≡ read_by (partial_le V.partial_cmp) lowest highest fixed reading }
+{
+    match reading {
+        Some(x) => taken_within(lowest, highest, fixed, x),
+        None => alarm_with(fixed),
+    }
+}
+
+// In this order: Md.p, pMin, pMax, p.F and the reading, in pascals; None: the sensor failed.
+#[tactic(auto, using(crate::proofs::Order::nat_kept), unfolding(crate::specs::Pressure::pressure_taken, crate::specs::Pressure::pressure_read, crate::specs::Taken::taken_within))]
+pub fn pressure_taken(
+    mode: u64,
+    lowest: u64,
+    highest: u64,
+    fixed: u64,
+    reading: Option<u64>,
+) -> Taken<u64>
     ensures { result ≡ pressure_taken mode lowest highest fixed reading }
 {
-    let pressure_off = mode == 0;
-    if pressure_off {
-        return Taken {
-            alarm: false,
-            value: fixed,
-        };
+    if mode == 0 {
+        return no_alarm(fixed);
     }
-    let Pressure::Pascals(p) = reading else {
-        return Taken {
-            alarm: true,
-            value: fixed,
-        };
+    // Stays: `let .. else` takes a pressure reading apart here: document 01's named form.
+    let Some(p) = reading else {
+        return alarm_with(fixed);
     };
     taken_within(lowest, highest, fixed, p)
 }
 
-// In this order: Md.K, K.F and the reading.
-#[tactic(auto, unfolding(crate::specs::Compressibility::k_taken, crate::specs::Compressibility::k_read))]
-pub fn k_taken(mode: u64, fixed: u64, reading: Compressibility) -> Taken
+// In this order: Md.K, K.F and the reading, in ten-thousandths; None: K was not computed.
+#[tactic(auto, using(crate::proofs::Order::nat_kept), unfolding(crate::specs::Compressibility::k_taken, crate::specs::Compressibility::k_read, crate::specs::Taken::taken_within, crate::specs::Plan::read_by))]
+pub fn k_taken(mode: u64, fixed: u64, reading: Option<u64>) -> Taken<u64>
     ensures { result ≡ k_taken mode fixed reading }
 {
-    let k_off = mode == 0;
-    if k_off {
-        return Taken {
-            alarm: false,
-            value: fixed,
-        };
+    if mode == 0 {
+        return no_alarm(fixed);
     }
-    let Compressibility::Computed(k) = reading else {
-        return Taken {
-            alarm: true,
-            value: fixed,
-        };
-    };
-    taken_within(ranges::LEAST_K, ranges::MOST_K, fixed, k)
+    read_within(ranges::LEAST_K, ranges::MOST_K, fixed, reading)
 }
 
-#[tactic(auto, using(ground::proofs::Signed::lt_back), unfolding(crate::specs::Temperature::measured_taken))]
-fn measured_taken(
-    lowest: i64,
-    highest: i64,
-    fixed: i64,
-    measured: temperature::Measured,
-) -> TakenTemperature
-    ensures { result ≡ measured_taken lowest highest fixed measured }
-{
-    let temperature::Measured::Hundredths(t) = measured else {
-        return TakenTemperature {
-            alarm: true,
-            value: fixed,
-        };
-    };
-    let low = ground::less(t, lowest);
-    let high = ground::less(highest, t);
-    if ground::either(low, high) {
-        return TakenTemperature {
-            alarm: true,
-            value: fixed,
-        };
-    }
-    TakenTemperature {
-        alarm: false,
-        value: t,
-    }
-}
-
-// In this order: Md.T, TMin, TMax, T.F, the three coefficients and the reading.
-#[tactic(auto, unfolding(crate::specs::Temperature::temperature_taken, crate::specs::Temperature::temperature_read))]
+// In this order: Md.T, TMin, TMax, T.F, the three coefficients and the raw reading; None: the sensor failed.
+#[tactic(auto, using(crate::proofs::Order::int_kept), unfolding(crate::specs::Temperature::temperature_taken, crate::specs::Temperature::temperature_read, crate::specs::Temperature::measured_taken, crate::specs::Plan::read_by))]
 pub fn temperature_taken(
     mode: u64,
     lowest: i64,
     highest: i64,
     fixed: i64,
     c: temperature::Coefficients,
-    reading: RawTemperature,
-) -> TakenTemperature
+    reading: Option<u16>,
+) -> Taken<i64>
     ensures { result ≡ temperature_taken mode lowest highest fixed c reading }
 {
-    let temperature_off = mode == 0;
-    if temperature_off {
-        return TakenTemperature {
-            alarm: false,
-            value: fixed,
-        };
+    if mode == 0 {
+        return no_alarm(fixed);
     }
-    let RawTemperature::Raw(raw) = reading else {
-        return TakenTemperature {
-            alarm: true,
-            value: fixed,
-        };
-    };
-    measured_taken(lowest, highest, fixed, temperature::measure(c, raw))
+    let measured = reading.and_then(|raw| temperature::measure(c, raw));
+    read_within(lowest, highest, fixed, measured)
 }
 
 // T in kelvin. Outside the range of T the sum might not fit, so it gives 0 there; no setting and no T.Mes lies there.
-#[tactic(auto, using(ground::proofs::Flags::or_false_left, ground::proofs::Flags::or_false_right, ground::proofs::Signed::lt_back, ground::proofs::Signed::cast, ground::proofs::Signed::shifted), unfolding(crate::specs::Plan::kelvin_guarded, crate::specs::Kelvin::kelvin_of))]
+#[tactic(auto, unfolding(crate::specs::Plan::kelvin_guarded, crate::specs::Kelvin::kelvin_of))]
 pub fn kelvin(t: i64) -> u64
     ensures { result ≡ kelvin_guarded t }
 {
-    let cold = ground::less(t, ranges::COLDEST);
-    let hot = ground::less(ranges::HOTTEST, t);
-    if ground::either(cold, hot) {
-        return 0;
+    if (ranges::COLDEST..=ranges::HOTTEST).contains(&t) {
+        (t + ranges::ZERO_CELSIUS) as u64
+    } else {
+        0
     }
-    (t + ranges::ZERO_CELSIUS) as u64
 }

@@ -10,7 +10,7 @@ use native.Mathlib.Omega.{arith}
 use lib.Dec.{ltb, leb, eqb}
 use borrow.Author.Tests.{eqb-true, ltb-true, lt-ltb, leb-true, ne_eqb}
 use Rattle.ground.proofs.Flags.{and_left, and_right}
-use Rattle.outputs.specs.Four.{all_ticked, emitted_of}
+use Rattle.outputs.specs.Four.{all_ticked}
 use Rattle.ring.specs.Ring.{audit_lines}
 use Rattle.ring.specs.Store.{written}
 use Rattle.state.specs.declared.Measured.{Measured}
@@ -49,7 +49,7 @@ abbrev pub given_by : Step → World → Given
 given_by (Cycle r) w = given.Nothing
 given_by (Turn turn) w = given.Nothing
 given_by Clear w = given.Nothing
-given_by (Tick named) w = given.Emitted (emitted_of (all_ticked named w.state.core.outputs).emitted)
+given_by (Tick named) w = given.Emitted (all_ticked named w.state.core.outputs).emitted
 given_by (Ask question) w = (asking question (body_of w)).gives
 given_by (Call door act) w = gives_at door act w.state
 given_by (Commit door) w = given.Nothing

@@ -2,8 +2,8 @@
 -- of lines looked at is what the history says.
 -- Assumes nothing.
 use mathlib.Core.Path.{◌≡◌, refl, sym, ap, ◌∙◌}
-use mathlib.Core.List.{List, [], ◌∷◌, ◌++◌, reverse, reverse_aux, reverse-append}
-use Prim.Native.Nat.{ℕ, suc, ◌+◌, ◌-◌, ◌≤◌}
+use mathlib.Core.List.{List, [], ◌∷◌, reverse, reverse_aux, reverse-append}
+use Prim.Native.Nat.{ℕ, suc, ◌-◌, ◌≤◌}
 use native.Mathlib.Omega.{arith}
 use lib.Dec.{leb}
 use lib.ListN.{length, take, drop, take-append-drop, length-drop, length-reverse}
@@ -17,10 +17,10 @@ use Rattle.books.specs.declared.LogLine.{LogLine}
 use Rattle.books.specs.declared.AuditLine.{AuditLine}
 use Rattle.asked.specs.Asked.{has_code, with_code, newest_of, newest_in, last_given}
 use Rattle.commands.specs.declared.Last.{Last}
-use Rattle.commands.specs.declared.Last.TheVariants.{Newest, NoneHeld}
+use Rattle.std.specs.Prelude.{Some, None}
 use Rattle.commands.specs.declared.Question.TheVariants as question
 use Rattle.commands.specs.declared.Given.TheVariants as given
-use Rattle.runs.specs.Run.{Step, Ask, World, Given, giving, number_of, step, corrector, started}
+use Rattle.runs.specs.Run.{Step, Ask, World, Given, giving, step, corrector, started}
 use Rattle.runs.specs.History.{history, start_time}
 use Rattle.runs.specs.Lines.{log_shelf, wrote_in}
 use Rattle.runs.specs.Never.{Sized}
@@ -35,12 +35,12 @@ module _ (code : ℕ) where
   further_by : (y : LogLine) (ys : List LogLine) (place held : ℕ) → newest_of (suc held) (with_code code (suc (suc place)) ys) ≡ one_further (newest_of held (with_code code (suc place) ys))
       → Either (has_code code y) → newest_of (suc held) (with_code code (suc place) (y ∷ ys)) ≡ one_further (newest_of held (with_code code place (y ∷ ys)))
   unfolding with_code newest_of
-  further_by y ys place held rest (is_true t) = rw t (ap (Newest y) (omega arith))
+  further_by y ys place held rest (is_true t) = rw t (ap (λ (k : ℕ). record { line = Some y; looked = k }) (omega arith))
   further_by y ys place held rest (is_false f) = rw f rest
 
   further_back : (ys : List LogLine) (place held : ℕ) → newest_of (suc held) (with_code code (suc place) ys) ≡ one_further (newest_of held (with_code code place ys))
   unfolding with_code newest_of
-  further_back [] place held = ap NoneHeld (omega arith)
+  further_back [] place held = ap (λ (k : ℕ). record { line = None; looked = k }) (omega arith)
   further_back (y ∷ ys) place held = further_by y ys place held (further_back ys (suc place) held) (either_of (has_code code y))
 
   one_line_by : (x : LogLine) (ys : List LogLine) → Either (has_code code x) → newest_in code (x ∷ ys) ≡ with_line code (newest_in code ys) x
@@ -56,7 +56,7 @@ module _ (code : ℕ) where
   lines_on [] ys = refl
   lines_on (x ∷ xs) ys = ap (λ (said : Last). with_lines code said xs) (sym (one_line x ys)) ∙ lines_on xs (x ∷ ys)
 
-  none_yet : newest_in code [] ≡ NoneHeld 0
+  none_yet : newest_in code [] ≡ record { line = None; looked = 0 }
   unfolding newest_in with_code newest_of
   none_yet = refl
 

@@ -3,7 +3,8 @@
 use mathlib.Core.Path.{◌≡◌, refl, sym, ap, ◌∙◌}
 use mathlib.Core.Bool.{Bool, true, false, cond}
 use mathlib.Core.Logic.{◌↔◌}
-use mathlib.Core.List.{List, [], ◌∷◌, ◌++◌}
+use mathlib.Core.List.{List, [], ◌∷◌, ◌++◌, append_assoc}
+use Rattle.std.specs.Prelude.{Some, None, option_to_list}
 use Prim.Native.Nat.{ℕ, zero, suc, ◌+◌, ◌-◌, ◌%◌, ◌≤◌, ◌<◌}
 use native.Mathlib.Nat.{add-zero, mod-add-mod, add-mod-mod}
 use native.Mathlib.Omega.{arith}
@@ -20,7 +21,7 @@ use Rattle.settings.specs.Settings.{setting_count}
 use Rattle.outputs.specs.declared.Rule.{Rule}
 use Rattle.outputs.specs.declared.Gain.{Gain}
 use Rattle.outputs.specs.declared.Output.{Output}
-use Rattle.outputs.specs.Outputs.{Followed, Off, Follows, followed, gain_by, wholes, rest_of, most_waiting, lost_rollover, account_of, credited_by, gained_by, ticked_by, same_rule, emptied, committed_by, fresh_output}
+use Rattle.outputs.specs.Outputs.{Followed, followed, gain_by, wholes, rest_of, most_waiting, lost_rollover, account_of, credited_by, gained_by, ticked_by, same_rule, emptied, committed_by, fresh_output}
 use Rattle.outputs.specs.Four.{output_count, rule_at, output_at, all_gained, all_ticked, all_committed, fresh_outputs}
 use Rattle.outputs.proofs.Wholes.{rest_zero, rest_twice, wholes_zero, wholes_twice}
 use Rattle.outputs.proofs.Whole.{rules_same}
@@ -28,8 +29,7 @@ use Rattle.outputs.proofs.All.{emitted_at}
 use Rattle.books.specs.declared.ArchiveLine.{ArchiveLine}
 use Rattle.books.specs.declared.LogLine.{LogLine}
 use Rattle.books.specs.declared.AuditLine.{AuditLine}
-use Rattle.notes.specs.declared.Note.{Note}
-use Rattle.notes.specs.Notes.{noted}
+use Rattle.notes.specs.Notes.{Note, note_of, noted}
 use Rattle.state.specs.declared.Alarms.{Alarms}
 use Rattle.state.specs.State.{fresh, fresh_core}
 use Rattle.state.specs.Card.{first_of}
@@ -202,8 +202,8 @@ gain_of a r = record { disturbed = disturbed_by a r; litres = litres_of (litres_
 
 gain_is : (f : Followed) (a : List Setting) (r : Brought) → gain_by f (gain_of a r) ≡ gain_on f a r
 unfolding gain_by
-gain_is Off a r = refl
-gain_is (Follows c) a r = refl
+gain_is None a r = refl
+gain_is (Some c) a r = refl
 
 gained_is : (a : List Setting) (r : Brought) (o : List Output) → is_too_large (amounts_for a r) ≡ false → gained_for a r o ≡ all_gained (rule_at a) (gain_of a r) o
 unfolding gained_for outputs_gained
@@ -476,26 +476,19 @@ abbrev count_of : ℕ → List ℕ → ℕ
 count_of c [] = 0
 count_of c (x ∷ xs) = cond (eqb x c) 1 0 + count_of c xs
 
-count_noted : (c : ℕ) (n : Note) (ns : List Note) → count_of c (noted (n ∷ ns)) ≡ cond n.on (cond (eqb n.code c) 1 0) 0 + count_of c (noted ns)
+count_noted : (c : ℕ) (t : Bool) (code : ℕ) (ns : List Note) → count_of c (noted (note_of t code ∷ ns)) ≡ cond t (cond (eqb code c) 1 0) 0 + count_of c (noted ns)
 unfolding noted
-count_noted c n ns = by n.on
-  where
-    by : (t : Bool) → count_of c (cond t (n.code ∷ []) [] ++ noted ns) ≡ cond t (cond (eqb n.code c) 1 0) 0 + count_of c (noted ns)
-    by true = refl
-    by false = omega arith
+count_noted c true code ns = refl
+count_noted c false code ns = omega arith
 
 count_none : (c : ℕ) → count_of c (noted []) ≡ 0
 unfolding noted
 count_none c = refl
 
-noted_on : (t : Bool) (c : ℕ) (xs ys zs : List ℕ) → zs ≡ xs ++ ys → (cond t (c ∷ []) [] ++ zs) ≡ ((cond t (c ∷ []) [] ++ xs) ++ ys)
-noted_on true c xs ys zs e = ap (λ (l : List ℕ). c ∷ l) e
-noted_on false c xs ys zs e = e
-
 noted_both : (ms ns : List Note) → noted (ms ++ ns) ≡ noted ms ++ noted ns
 unfolding noted
 noted_both [] ns = refl
-noted_both (m ∷ ms) ns = noted_on m.on m.code (noted ms) (noted ns) (noted (ms ++ ns)) (noted_both ms ns)
+noted_both (m ∷ ms) ns = ap (λ (l : List ℕ). option_to_list m ++ l) (noted_both ms ns) ∙ sym (append_assoc (option_to_list m) (noted ms) (noted ns))
 
 -- THE LINES OF THE ALARMS COME FIRST
 pub alarms_first : (before found : Alarms) (over : List Bool) → changes before found over ≡ noted (change_notes before found) ++ noted (loss_notes over)

@@ -9,7 +9,7 @@ use lib.ListN.{length, drop, drop_of_length-le}
 use Rattle.order.specs.Order.{run}
 use Rattle.units.specs.Units.{litres_shown, base_shown}
 use Rattle.message.specs.Message.{message, size, Fits}
-use Rattle.reader.specs.declared.Parsed.TheVariants.{Accepted}
+use Rattle.std.specs.Prelude.{Ok}
 use Rattle.reader.specs.Reader.{parsed}
 use Rattle.reader.proofs.Laws.{reads_back}
 use Rattle.books.specs.declared.ArchiveLine.{ArchiveLine}
@@ -56,7 +56,7 @@ module _ (xs : List Step) (time supcode custcode : ℕ) (archive : List ArchiveL
   readout_writes old h = rw (always_whole xs time supcode custcode archive log audit, le-ltb (length old) size h, counted)
 
   -- WHAT A READOUT WROTE READS BACK to these values
-  pub readout_reads_back : (old : List ℕ) → length old ≡ size → parsed (readout_leaves end.state old) ≡ Accepted (values_in past)
+  pub readout_reads_back : (old : List ℕ) → length old ≡ size → parsed (readout_leaves end.state old) ≡ Ok (values_in past)
   readout_reads_back old h =
       let only : readout_leaves end.state old ≡ message (values_in past) =
       readout_writes old (omega arith) ∙ rw (drop_of_length-le old {i = size} (omega arith), append-nil (message (values_in past))) in

@@ -12,7 +12,7 @@ use lib.ListN.{length, get_or, set}
 use lib.Seq.{get_or-set_same}
 use borrow.Author.Tests.{eqb-true, ltb-false, leb-false}
 use Rattle.ground.proofs.Flags.{or_false_left, or_false_right}
-use Rattle.order.specs.Order.{Door, keypad, port, Act, at, Fate, goesOn, dropped, committed, opens, fate, Serialises}
+use Rattle.order.specs.Order.{Door, keypad, port, Act, Fate, goesOn, dropped, committed, opens, fate, Serialises}
 use Rattle.order.proofs.Order.{Build, Laws, slot, held, start, overtaken, core_by, mine_by, theirs_by, fate_of, Fits, serialises}
 use Rattle.settings.specs.declared.Value.{Value}
 use Rattle.settings.specs.Settings.{setting_count, value_at, fits_b, ordered_b}

@@ -4,13 +4,13 @@
 use mathlib.Core.Path.{◌≡◌, refl, sym, ap, ◌∙◌}
 use mathlib.Core.Bool.{Bool, true, false, cond, true≢false}
 use mathlib.Core.List.{List}
+use Rattle.std.proofs.Common.{Some}
 use Prim.Native.Nat.{ℕ, ◌+◌, ◌%◌}
 use native.Mathlib.Nat.{add-zero, mod-add-mod}
 use mathlib.Core.Logic.{◌⊎◌, inl, inr}
 use lib.Dec.{ltb, eqb}
 use borrow.Author.Tests.{eqb-true}
 use Rattle.order.specs.Order.{run}
-use Rattle.units.specs.declared.Amounts.TheVariants.{Counted}
 use Rattle.units.specs.Units.{litres_rollover, base_rollover, litres_of, base_of, litres_shown, base_shown, plus_litres, plus_base, converted_of, amounts_of}
 use Rattle.settings.specs.declared.Setting.{Setting}
 use Rattle.state.specs.declared.Counters.{Counters}
@@ -38,12 +38,12 @@ counters_in b = b.core.measured.counters
 -- ---- the amounts of an accepted cycle
 
 amounts_by : (a : List Setting) (r : Brought) (less : Bool) → ltb (base_by a r) base_rollover ≡ less
-    → is_too_large (amounts_for a r) ≡ false → amounts_for a r ≡ Counted (litres_of (litres_by a r)) (base_of (base_by a r))
+    → is_too_large (amounts_for a r) ≡ false → amounts_for a r ≡ Some (record { litres = litres_of (litres_by a r); base = base_of (base_by a r) })
 unfolding amounts_for amounts_of converted_of is_too_large litres_by base_by
 amounts_by a r true e h = rw e
 amounts_by a r false e h = absurd (true≢false (rw e at h))
 
-pub amounts_are : (a : List Setting) (r : Brought) → is_too_large (amounts_for a r) ≡ false → amounts_for a r ≡ Counted (litres_of (litres_by a r)) (base_of (base_by a r))
+pub amounts_are : (a : List Setting) (r : Brought) → is_too_large (amounts_for a r) ≡ false → amounts_for a r ≡ Some (record { litres = litres_of (litres_by a r); base = base_of (base_by a r) })
 amounts_are a r h = amounts_by a r (ltb (base_by a r) base_rollover) refl h
 
 -- ---- one cycle
@@ -56,7 +56,7 @@ same : (m s v : ℕ) → v ≡ s % m → v ≡ (s + 0) % m
 same m s v e = rw add-zero e
 
 counted_by_lem : (c : Counter) (k : Counters) (s l b : ℕ) (disturbed : Bool) → shown_by c k ≡ s % rollover c
-    → shown_by c (counted k disturbed (Counted (litres_of l) (base_of b))) ≡ (s + put_by c disturbed l b) % rollover c
+    → shown_by c (counted k disturbed (Some (record { litres = litres_of l; base = base_of b }))) ≡ (s + put_by c disturbed l b) % rollover c
 unfolding counted plus_litres litres_shown plus_base base_shown
 counted_by_lem Vm k s l b false e = more litres_rollover s k.vm.0 l e
 counted_by_lem Vm k s l b true e = same litres_rollover s k.vm.0 e

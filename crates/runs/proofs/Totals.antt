@@ -12,7 +12,7 @@ use Rattle.units.proofs.Sums.{litres_together, base_together}
 use Rattle.books.specs.declared.ArchiveLine.{ArchiveLine}
 use Rattle.books.specs.declared.LogLine.{LogLine}
 use Rattle.books.specs.declared.AuditLine.{AuditLine}
-use Rattle.panel.specs.Panel.{reported, report_refusal, report_by, report_of}
+use Rattle.panel.specs.Panel.{reported, report_refusal, report_by}
 use Rattle.panel.proofs.Laws.{total_litres, total_base}
 use Rattle.runs.specs.Run.{Step, Ask, World, giving, step, corrector, started}
 use Rattle.commands.specs.declared.Question.TheVariants as question

@@ -1,13 +1,13 @@
 -- The pulse outputs over a run, said of the history alone (the balance at the end also looks at the device). Document 02, Three: "pulses due, summed from the history of gains and weights, equal emitted plus waiting
 -- plus lost, modulo 2^32". Outputs are numbered from 0 here; output k is output k + 1 on paper.
 -- Assumes nothing.
-use Rattle.std.specs.Prelude.{◌≡◌, ℕ, ◌+◌, ◌-◌, ◌%◌, ◌≤◌, min, Bool, cond, List, [], ◌∷◌, ltb, get_or, drop}
+use Rattle.std.specs.Prelude.{◌≡◌, ℕ, ◌+◌, ◌-◌, ◌%◌, ◌≤◌, min, Bool, cond, List, [], ◌∷◌, ltb, get_or, drop, Some, None}
 use Rattle.ground.specs.Below.{listed}
 use Rattle.settings.specs.declared.Setting.{Setting}
 use Rattle.outputs.specs.declared.Rule.{Rule}
 use Rattle.outputs.specs.declared.Output.{Output}
-use Rattle.outputs.specs.Outputs.{Followed, Off, Follows, followed, weight_in, wholes, rest_of, most_waiting, lost_rollover, account_of, same_rule}
-use Rattle.outputs.specs.Four.{output_count, rule_at, output_at, numbers_of}
+use Rattle.outputs.specs.Outputs.{Followed, followed, weight_in, wholes, rest_of, most_waiting, lost_rollover, account_of, same_rule}
+use Rattle.outputs.specs.Four.{output_count, rule_at, output_at}
 use Rattle.commands.specs.declared.Brought.{Brought}
 use Rattle.commands.specs.declared.Given.{Given}
 use Rattle.commands.specs.declared.Given.TheVariants as given
@@ -27,8 +27,8 @@ weight_now k past = weight_in (rule_in k past)
 
 -- what a cycle puts on the counter that is followed: the amount that the sums are made of, before any rollover
 abbrev pub gain_on : Followed → List Setting → Brought → ℕ
-gain_on Off a r = 0
-gain_on (Follows c) a r = amount_of c a r
+gain_on None a r = 0
+gain_on (Some c) a r = amount_of c a r
 
 abbrev pub gain_for : ℕ → Brought → History → ℕ
 gain_for k r past = gain_on (followed (rule_in k past).choice) (settings_in past) r
@@ -63,7 +63,7 @@ abbrev pub emitted_by : Given → List ℕ
 emitted_by given.Nothing = []
 emitted_by (given.Value v) = []
 emitted_by (given.Report m) = []
-emitted_by (given.Emitted e) = numbers_of e
+emitted_by (given.Emitted e) = e
 emitted_by (given.Outputs all) = []
 emitted_by (given.Readout x) = []
 emitted_by (given.Archive l) = []

@@ -2,7 +2,7 @@
 -- rest in rising number." Document 02, Three: 15, after 1. Five: 16, after 1.
 -- Assumes nothing.
 use Rattle.std.specs.Prelude.{ℕ, ◌-◌, Bool, true, not, cond, ◌&&◌, ◌||◌, List, [], ◌∷◌, ltb, leb, eqb, length, get_or}
-use Rattle.outputs.specs.Four.{rule_at, most_tick, all_shown, shown_of}
+use Rattle.outputs.specs.Four.{rule_at, most_tick, all_shown}
 use Rattle.calendar.specs.Calendar.{end_of_time}
 use Rattle.message.specs.Message.{size}
 use Rattle.units.specs.Units.{most_pulses}
@@ -47,7 +47,7 @@ asked_line give size none r l i =
 
 abbrev pub asking : Question → Body → Asked
 asking question.Report b = record { lent = true; rows = []; gives = given.Report (reported b.core) }
-asking question.Outputs b = record { lent = true; rows = []; gives = given.Outputs (shown_of (all_shown (rule_at b.core.settings) b.core.outputs)) }
+asking question.Outputs b = record { lent = true; rows = []; gives = given.Outputs (all_shown (rule_at b.core.settings) b.core.outputs) }
 -- 16: the lent buffer is shorter than the message
 asking (question.Readout room) b = record { lent = true; rows = (16, ltb room size) ∷ []; gives = given.Readout (record { room = room; values = values_of b.core.measured.counters }) }
 asking (question.Archive i) b = asked_line given.Archive archive_lines no_archive b.core.stores.archive b.archive i

@@ -3,7 +3,9 @@
 -- Assumes nothing.
 use Rattle.std.specs.Prelude.{ℕ, ◌+◌, ◌*◌, Bool, cond, List, [], ◌∷◌}
 use Rattle.units.specs.Units.{litres_rollover, base_rollover, pulse_litres}
-pub use Rattle.units.specs.Units.{Counter, Vm, VmD, VmT, Vb, VbD, VbT, put_by}
+pub use Rattle.units.specs.declared.Counter.{Counter}
+pub use Rattle.units.specs.declared.Counter.TheVariants.{Vm, VmD, VmT, Vb, VbD, VbT}
+pub use Rattle.units.specs.Units.{put_by}
 use Rattle.settings.specs.declared.Setting.{Setting}
 use Rattle.settings.specs.Settings.{cp}
 use Rattle.state.specs.declared.Counters.{Counters}

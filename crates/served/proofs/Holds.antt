@@ -50,7 +50,7 @@ use Rattle.runs.proofs.Stale.{stale_exactly}
 use Rattle.runs.proofs.Last.{last_exactly}
 use Rattle.runs.proofs.Sessions.{sessions_in_order}
 use Rattle.runs.proofs.Never.{never_met, never_one, earlier_without_one}
-use Rattle.served.specs.Served.{Run, end_of, last_run, response, Block, lines_of, served_all, Sized, Begun}
+use Rattle.served.specs.Served.{Run, end_of, last_run, Block, lines_of, served_all, Sized, Begun}
 use Rattle.served.proofs.Served.{block_by_block}
 use Rattle.served.proofs.Begun.{always_begun, fresh_begun}
 use Rattle.served.proofs.Refused.{served_refused}
@@ -150,7 +150,7 @@ module _ (bs : List Block) (time supcode custcode : ℕ) where
 
   -- NO COMMAND AMONG THE LINES IS ANSWERED WITH 1, whatever runs and starts came before it
   pub shown_never_one : (before after : List Entry) (c : Command) → lines_of bs ≡ before ++ (entry.Put c ∷ after) → (r : Reply)
-      → get_or (served_all bs fresh).0 (length before) no_response ≡ response (echo.Said r) → number_of r ≡ 1 → ⊥
+      → get_or (served_all bs fresh).0 (length before) no_response ≡ echo.Said r → number_of r ≡ 1 → ⊥
   shown_never_one before after c here r e q =
       let g = (served_refused fresh bs before after c here r e 1 (omega arith)).0 q in
       of_a_run (λ w xs v. (x : Command) → number_of (step x v).1 ≡ 1 → ⊥) (λ t a b archive log audit s xs. never_one t a b archive log audit s xs)

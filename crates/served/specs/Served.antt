@@ -1,7 +1,7 @@
 -- Lines put to a desk, read as runs. The commands among them are the steps. A start begins a new run, over the stores as they then stand. An empty
 -- line is answered by nothing, an unknown one by `?`, and a message by what the reader says of it; none of these is a step.
 -- Assumes nothing.
-use Rattle.std.specs.Prelude.{ℕ, ◌-◌, ◌≡◌, List, [], ◌∷◌, ◌++◌, map, length, replicate, take}
+use Rattle.std.specs.Prelude.{ℕ, ◌-◌, ◌≡◌, List, [], ◌∷◌, ◌++◌, length, replicate, take}
 use Rattle.order.specs.Order.{run}
 use Rattle.commands.specs.declared.Command.{Command}
 use Rattle.commands.specs.declared.Reply.{Reply}
@@ -12,8 +12,6 @@ use Rattle.commands.specs.declared.Echo.TheVariants as echo
 use Rattle.panel.specs.Panel.{start_of}
 use Rattle.commands.specs.Answers.{World}
 use Rattle.desk.specs.declared.Desk.{Desk}
-use Rattle.desk.specs.declared.Input.{Input}
-use Rattle.desk.specs.declared.Response.{Response}
 use Rattle.desk.specs.declared.Served.{Served}
 use Rattle.desk.specs.Desk.{block, no_response, world_in, desk_of, served}
 use Rattle.runs.specs.Run.{corrector, started}
@@ -102,34 +100,28 @@ said_to es w = in_place es (answers_of (first_run es w) (parts es))
 
 -- ---- a block, and blocks one after another
 
-abbrev pub input : Entry → Input
-input e = record { entry = e }
-
-abbrev pub response : Echo → Response
-response e = record { echo = e }
-
 -- what is to be handed back for a block
 unfoldable pub ran : Desk → List Entry → Served
 ran d es = record {
   desk = desk_of (end_of (last_run es (world_in d)));
-  responses = map response (said_to es (world_in d)) ++ replicate (block - length es) no_response;
+  responses = said_to es (world_in d) ++ replicate (block - length es) no_response;
 }
 
 -- what `desk::serve` is given beside the desk: an array, and how many of its lines are to be served
 pub record Block : Type 0 where
-  pub inputs : List Input
+  pub inputs : List Entry
   pub count : ℕ
   pub full : length inputs ≡ block
 
 unfoldable pub lines_in : Block → List Entry
-lines_in b = map (λ (x : Input). x.entry) (take b.count b.inputs)
+lines_in b = take b.count b.inputs
 
 unfoldable pub lines_of : List Block → List Entry
 lines_of [] = []
 lines_of (b ∷ bs) = lines_in b ++ lines_of bs
 
 -- blocks served, each on the desk that came back from the one before: what was put out to their lines, and the desk at the end
-unfoldable pub served_all : List Block → Desk → List Response × Desk
+unfoldable pub served_all : List Block → Desk → List Echo × Desk
 served_all [] d = ([], d)
 served_all (b ∷ bs) d =
     let s = served d b.inputs b.count in

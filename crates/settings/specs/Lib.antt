@@ -1,3 +1,3 @@
 -- The settings: their table, which values fit, and the rights.
-pub mod Columns
+pub mod Texts
 pub mod Settings

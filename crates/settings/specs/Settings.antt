@@ -1,7 +1,7 @@
 -- The settings of the corrector, document 01, "Quantities" and "Doors, sessions, locks", and document 02, Three and Four: range, factory value and lock of a setting stand
 -- in its row, and which locks give a right in the lock's row. A setting is named by its place in the table, from 0: its number less one.
 -- Assumes nothing.
-use Rattle.std.specs.Prelude.{ℕ, List, [], ◌∷◌, map, Bool, true, false, not, ◌&&◌, ◌||◌, ltb, get_or, ℤ, pos, negsuc, neg_ℤ, Float}
+use Rattle.std.specs.Prelude.{ℕ, List, [], ◌∷◌, map, Bool, true, false, not, ◌&&◌, ◌||◌, ltb, get_or, ℤ, pos, negsuc, neg_ℤ, Float, Option, Some, None}
 use Prim.Native.String.{String}
 use Rattle.std.specs.Int.Signed.{lt_z}
 use Rattle.std.specs.Float.{nan, inf, fin}
@@ -10,10 +10,11 @@ use Rattle.ground.specs.Ranges.{most_code, k_scale, least_k, most_k, least_p, mo
 use Rattle.settings.specs.declared.Value.{Value}
 use Rattle.settings.specs.declared.Value.TheVariants.{Whole, Coefficient}
 use Rattle.settings.specs.declared.Setting.{Setting}
+use Rattle.settings.specs.declared.table.Range.{Range}
 use Rattle.settings.specs.declared.table.Row.{Row}
 use Rattle.settings.specs.declared.table.Lock.{Lock}
 use Rattle.settings.specs.declared.table.Pair.{Pair}
-use Rattle.settings.specs.Columns.{column}
+use Rattle.settings.specs.Texts.{bytes_of}
 
 -- how many settings there are
 abbrev pub setting_count : ℕ
@@ -21,10 +22,7 @@ setting_count = 29
 
 -- ---- the locks: a row each
 
--- how many bytes the name of a lock has on the card; how many locks there are
-abbrev pub lock_width : ℕ
-lock_width = 11
-
+-- how many locks there are
 abbrev pub lock_count : ℕ
 lock_count = 3
 
@@ -37,19 +35,30 @@ sup = 2
 abbrev pub cust : ℕ
 cust = 3
 
-abbrev pub lock_with : ℕ → List ℕ → Bool → Bool → Bool → Lock
+-- a lock's row, with its name by its bytes
+pub record PrintedLock : Type 0 where
+  pub number : ℕ
+  pub name : List ℕ
+  pub cal : Bool
+  pub sup : Bool
+  pub cust : Bool
+
+abbrev pub lock_with : ℕ → List ℕ → Bool → Bool → Bool → PrintedLock
 lock_with number name one two three = record { number = number; name = name; cal = one; sup = two; cust = three }
 
+abbrev pub printed_lock : Lock → PrintedLock
+printed_lock l = lock_with l.number l.name.now l.cal l.sup l.cust
+
 -- number and name; then which of the locks 1, 2 and 3 give the right, each by itself
-abbrev pub lock_row : ℕ → String → Bool → Bool → Bool → Lock
-lock_row number name one two three = lock_with number (column lock_width name) one two three
+abbrev pub lock_row : ℕ → String → Bool → Bool → Bool → PrintedLock
+lock_row number name one two three = lock_with number (bytes_of name) one two three
 
 -- no lock gives this right
-abbrev pub no_lock_row : Lock
+abbrev pub no_lock_row : PrintedLock
 no_lock_row = lock_row 0 "-" false false false
 
 -- "cal" needs lock 1 open; "sup" lock 1 or 2; "cust" at least one of the three. There is no lock 0
-unfoldable pub locks : List Lock
+unfoldable pub locks : List PrintedLock
 locks =
     no_lock_row
     ∷ lock_row cal "calibration" true false false
@@ -57,37 +66,37 @@ locks =
     ∷ lock_row cust "customer's" true true true
     ∷ []
 
-unfoldable pub lock_row_of : ℕ → Lock
+unfoldable pub lock_row_of : ℕ → PrintedLock
 lock_row_of lock = get_or locks lock no_lock_row
 
 -- ---- the table: a row for each setting
 
--- how many bytes a name has on the card, and a unit
-abbrev pub name_width : ℕ
-name_width = 18
+-- a row, with its texts by their bytes; a setting without a range is a coefficient
+pub record PrintedRow : Type 0 where
+  pub number : ℕ
+  pub name : List ℕ
+  pub unit : List ℕ
+  pub range : Option Range
+  pub factory : Value
+  pub lock : ℕ
 
-abbrev pub unit_width : ℕ
-unit_width = 45
+abbrev pub row_with : ℕ → List ℕ → List ℕ → Option Range → Value → ℕ → PrintedRow
+row_with number name unit range first lock = record { number = number; name = name; unit = unit; range = range; factory = first; lock = lock }
 
-abbrev pub row_with : ℕ → List ℕ → List ℕ → Bool → ℤ → ℤ → Value → ℕ → Row
-row_with number name unit coefficient low high first lock = record {
-  number = number;
-  name = name;
-  unit = unit;
-  coefficient = coefficient;
-  lowest = low;
-  highest = high;
-  factory = first;
-  lock = lock;
-}
+abbrev pub printed_row : Row → PrintedRow
+printed_row r = row_with r.number r.name.now r.unit.now r.range r.factory r.lock
 
--- number, name, unit; a whole number from the lowest to the highest, both included; the factory value; the lock
-abbrev pub whole_row : ℕ → String → String → ℤ → ℤ → ℤ → ℕ → Row
-whole_row number name unit low high first lock = row_with number (column name_width name) (column unit_width unit) false low high (Whole first) lock
+-- from the lowest to the highest, both included
+abbrev pub from_to : ℤ → ℤ → Option Range
+from_to low high = Some (record { lowest = low; highest = high })
+
+-- number, name, unit; a whole number from the lowest to the highest; the factory value; the lock
+abbrev pub whole_row : ℕ → String → String → ℤ → ℤ → ℤ → ℕ → PrintedRow
+whole_row number name unit low high first lock = row_with number (bytes_of name) (bytes_of unit) (from_to low high) (Whole first) lock
 
 -- number, name, unit; any finite float; the factory value; the lock
-abbrev pub float_row : ℕ → String → String → Float → ℕ → Row
-float_row number name unit first lock = row_with number (column name_width name) (column unit_width unit) true (pos 0) (pos 0) (Coefficient first) lock
+abbrev pub float_row : ℕ → String → String → Float → ℕ → PrintedRow
+float_row number name unit first lock = row_with number (bytes_of name) (bytes_of unit) None (Coefficient first) lock
 
 -- document 02, Three: choices 0..6, factory 0; weights, factory 100
 abbrev pub most_choice : ℕ
@@ -96,13 +105,13 @@ most_choice = 6
 abbrev pub factory_weight : ℕ
 factory_weight = 100
 
-abbrev pub choice_row : ℕ → String → Row
+abbrev pub choice_row : ℕ → String → PrintedRow
 choice_row number name = whole_row number name "0 off, 1 Vm, 2 VmD, 3 VmT, 4 Vb, 5 VbD, 6 VbT" (pos 0) (pos most_choice) (pos 0) sup
 
-abbrev pub weight_row : ℕ → String → Row
+abbrev pub weight_row : ℕ → String → PrintedRow
 weight_row number name = whole_row number name "litres a pulse" (pos least_weight) (pos most_weight) (pos factory_weight) sup
 
-unfoldable pub rows : List Row
+unfoldable pub rows : List PrintedRow
 rows =
     whole_row 1 "cp code c" "one pulse is 10^(c+1) litres" (pos 0) (pos most_code) (pos 1) cal
     ∷ whole_row 2 "pb" "Pa" (pos least_pb) (pos most_pb) (pos 101325) cal
@@ -136,10 +145,10 @@ rows =
     ∷ []
 
 -- past the table's end: no setting, and no lock opens it
-abbrev pub no_row : Row
+abbrev pub no_row : PrintedRow
 no_row = whole_row 0 "-" "-" (pos 0) (pos 0) (pos 0) 0
 
-unfoldable pub row_of : ℕ → Row
+unfoldable pub row_of : ℕ → PrintedRow
 row_of k = get_or rows k no_row
 
 -- the places of the settings that the corrector itself reads
@@ -210,9 +219,14 @@ unfoldable pub within_b : ℤ → ℤ → ℤ → Bool
 within_b low high n = not (lt_z n low) && not (lt_z high n)
 
 -- of the row's kind, and in its range
-unfoldable pub fits_row : Row → Value → Bool
-fits_row r (Whole n) = not r.coefficient && within_b r.lowest r.highest n
-fits_row r (Coefficient f) = r.coefficient && is_finite f
+unfoldable pub fits_range : Option Range → Value → Bool
+fits_range (Some r) (Whole n) = within_b r.lowest r.highest n
+fits_range (Some r) (Coefficient f) = false
+fits_range None (Whole n) = false
+fits_range None (Coefficient f) = is_finite f
+
+unfoldable pub fits_row : PrintedRow → Value → Bool
+fits_row r v = fits_range r.range v
 
 unfoldable pub fits_b : ℕ → Value → Bool
 fits_b k v = ltb k setting_count && fits_row (row_of k) v
@@ -226,7 +240,7 @@ no_setting = record { value = Whole (pos 0) }
 abbrev pub value_at : List Setting → ℕ → Value
 value_at a k = (get_or a k no_setting).value
 
-unfoldable pub factory_of : Row → Setting
+unfoldable pub factory_of : PrintedRow → Setting
 factory_of r = record { value = r.factory }
 
 unfoldable pub factory_settings : List Setting

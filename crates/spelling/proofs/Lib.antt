@@ -4,3 +4,4 @@ pub mod Spelled
 pub mod Lent
 pub mod Alike
 pub mod Spells
+pub mod Appended

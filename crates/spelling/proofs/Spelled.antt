@@ -3,14 +3,13 @@
 use mathlib.Core.Path.{◌≡◌, refl, sym, ap, ◌∙◌}
 use mathlib.Core.Bool.{Bool, true, false}
 use mathlib.Core.List.{List, [], ◌∷◌, ◌++◌, append_assoc}
-use Prim.Native.Nat.{ℕ, suc, ◌+◌, ◌/◌, ◌%◌, ◌≤◌, ◌<◌, min}
+use Prim.Native.Nat.{ℕ, suc, ◌/◌, ◌%◌, ◌≤◌, ◌<◌, min}
 use native.Mathlib.Nat.{le_refl}
-use native.Mathlib.Numerals.{add-one}
 use native.Mathlib.Omega.{arith}
 use borrow.Author.Tests.{ltb-true, ltb-false, leb-true, le-leb}
 use lib.Dec.{ltb, leb}
-use lib.ListN.{length, get_or, take, drop, set, length-set, take-append-drop, drop_of_length-le}
-use lib.Seq.{take-suc, take-suc-set, take_all, drop-cons, drop-set-lt, drop-drop, get_or-set_same}
+use lib.ListN.{length, take, drop, set, length-set, drop_of_length-le}
+use lib.Seq.{take_all, drop-cons, drop-set-lt, get_or-set_same}
 use Rattle.ground.proofs.Flags.{and_left, and_right}
 use Rattle.spelling.specs.Spelling.{glyph, digits, spellable, digits_over, text_over}
 
@@ -56,17 +55,10 @@ digits_done base rest all l e = sym e
 
 -- ---- a text
 
--- one byte more is copied
-pub copied_more : (l text : List ℕ) (i : ℕ) → i < length l → i < length text → take i l ≡ take i text → take (i + 1) (set l i (get_or text i 0)) ≡ take (i + 1) text
-copied_more l text i h k e = rw (add-one i, take-suc-set l i (get_or text i 0) h, take-suc text i 0 k, e)
-
-pub rest_stays : (l old : List ℕ) (i b : ℕ) → drop i l ≡ drop i old → drop (i + 1) (set l i b) ≡ drop (i + 1) old
-rest_stays l old i b e = drop-set-lt (i + 1) l i b (omega arith) ∙ sym (drop-drop 1 i l) ∙ ap (drop 1) e ∙ drop-drop 1 i old
-
 -- as far as both go
-pub copied : (l old text : List ℕ) (n : ℕ) → n ≡ min (length text) (length old) → take n l ≡ take n text → drop n l ≡ drop n old → l ≡ text_over old text
+pub copied : (old text : List ℕ) (n : ℕ) → n ≡ min (length text) (length old) → take n text ++ drop n old ≡ text_over old text
 unfolding text_over
-copied l old text n m e d = sym (take-append-drop n l) ∙ rw (e, d) (by_test (ltb (length text) (length old)) refl)
+copied old text n m = by_test (ltb (length text) (length old)) refl
   where
     by_test : (t : Bool) → ltb (length text) (length old) ≡ t → take n text ++ drop n old ≡ take (length old) text ++ drop (length text) old
     by_test true t =

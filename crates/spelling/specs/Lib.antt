@@ -1,2 +1,3 @@
 -- How texts and digits are put into bytes.
 pub mod Spelling
+pub mod Cursor

@@ -1,24 +1,16 @@
 // Texts and digits put into bytes that the caller lends, and read from them. How many digits a number gets is the length of what is lent.
 #![tactic(auto)]
 
-ghost use Rattle.std.specs.Prelude.{◌≡◌, ◌<◌, min, length};
+pub mod cursor;
+
+ghost use Rattle.std.specs.Prelude.{◌≡◌, ◌<◌, length};
 ghost use Rattle.spelling.specs.Spelling.{same_b, glyph, digits, spellable, digits_over, digit_of, text_over};
 
-#[tactic(auto, using(crate::proofs::Alike::other_length, crate::proofs::Alike::passes_both, crate::proofs::Alike::stops_both))]
+#[tactic(auto, using(crate::proofs::Alike::same_pointwise))]
 pub fn same(a: &[u8], b: &[u8]) -> bool
     ensures { result ≡ same_b a.now b.now }
 {
-    if a.len() != b.len() {
-        return false;
-    }
-    let mut i = 0;
-    while i < a.len() {
-        if a[i] != b[i] {
-            return false;
-        }
-        i += 1;
-    }
-    true
+    a == b
 }
 
 // ---- digits
@@ -42,9 +34,7 @@ fn glyph_of(d: u64) -> u8
 fn has_glyphs(base: u64) -> bool
     ensures { result ≡ spellable base }
 {
-    let some = 2 <= base;
-    let few = base <= 16;
-    ground::both(some, few)
+    2 <= base && base <= 16
 }
 
 // Puts the last digits of a number over all of the part, beginning with the last.
@@ -52,12 +42,11 @@ fn spell(part: &mut [u8], base: u64, n: u64)
     requires { (1 < base) × (base < 17) }
     ensures { part.new ≡ digits base (length part.old) n }
 {
-    let mut i = part.len();
     let mut rest = n;
-    while 0 < i {
-        i -= 1;
+    // Stays: tried, and the proof did not close over `iter_mut().rev()`: what the part holds after the loop stayed open.
+    for i in (0..part.len()).rev() {
         part[i] = glyph_of(rest % base);
-        rest = rest / base;
+        rest /= base;
     }
 }
 
@@ -66,57 +55,31 @@ fn spell(part: &mut [u8], base: u64, n: u64)
 pub fn digits_into(part: &mut [u8], base: u64, n: u64)
     ensures { part.new ≡ digits_over part.old base n }
 {
-    let known = has_glyphs(base);
-    if known {
+    if has_glyphs(base) {
         spell(part, base, n);
-        return;
     }
 }
 
-// Larger than any digit.
-const NO_DIGIT: u64 = 16;
-
-const PAST_NINE: u8 = b'9' + 1;
-
-const PAST_F: u8 = b'f' + 1;
-
-// `0` to `9`, and `a` to `f` for 10 to 15.
+// `0` to `9`, and `a` to `f` for 10 to 15; 16 for any other byte.
+// Stays: a number for no digit and not an Option, since the definition of `spelled` counts it too, and so does the reader.
 #[tactic(auto, unfolding(crate::specs::Spelling::digit_of))]
 pub fn digit_of(b: u8) -> u64
     ensures { result ≡ digit_of b }
 {
-    if b < b'0' {
-        return NO_DIGIT;
+    match b {
+        b'0'..=b'9' => (b - b'0') as u64,
+        b'a'..=b'f' => (b - LETTERS) as u64,
+        _ => 16,
     }
-    if b < PAST_NINE {
-        return (b - b'0') as u64;
-    }
-    if b < b'a' {
-        return NO_DIGIT;
-    }
-    if b < PAST_F {
-        return (b - LETTERS) as u64;
-    }
-    NO_DIGIT
 }
 
 // ---- texts
 
-fn shorter(a: usize, b: usize) -> usize
-    ensures { result ≡ min a b }
-{
-    if a < b { a } else { b }
-}
-
 // Puts a text over the front of the part, as far as both go.
-#[tactic(auto, using(crate::proofs::Spelled::copied_more, crate::proofs::Spelled::rest_stays, crate::proofs::Spelled::copied))]
+#[tactic(auto, using(crate::proofs::Spelled::copied))]
 pub fn text_into(part: &mut [u8], text: &[u8])
     ensures { part.new ≡ text_over part.old text.now }
 {
-    let n = shorter(text.len(), part.len());
-    let mut i = 0;
-    while i < n {
-        part[i] = text[i];
-        i += 1;
-    }
+    let n = text.len().min(part.len());
+    part[..n].copy_from_slice(&text[..n]);
 }

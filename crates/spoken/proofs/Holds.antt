@@ -28,7 +28,7 @@ use Rattle.runs.proofs.Outputs.{balance}
 use Rattle.runs.proofs.Times.{start_time_lem}
 use Rattle.runs.proofs.Lines.{archive_holds, log_holds, audit_holds}
 use Rattle.runs.proofs.Sessions.{sessions_in_order}
-use Rattle.served.specs.Served.{Run, last_run, input, Block, lines_in, lines_of}
+use Rattle.served.specs.Served.{Run, last_run, Block, lines_in, lines_of}
 use Rattle.served.proofs.Served.{block_by_block}
 use Rattle.served.proofs.Holds.{OfEveryRun, holds_of_the_desk}
 use Rattle.spoken.specs.Spoken.{entries_of, spoken, Read, in_reads, all_read, EnoughAfter}
@@ -37,7 +37,7 @@ use Rattle.spoken.proofs.ByReads.{read_by_read}
 -- ---- how lines fall into blocks makes no difference to a desk: here each line is a block
 
 abbrev alone : Entry → Block
-alone e = record { inputs = input e ∷ replicate 255 no_input; count = 1; full = ap suc (length-replicate 255 no_input) }
+alone e = record { inputs = e ∷ replicate 255 no_input; count = 1; full = ap suc (length-replicate 255 no_input) }
 
 each_alone : (es : List Entry) → lines_of (map alone es) ≡ es
 unfolding lines_of lines_in

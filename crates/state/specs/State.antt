@@ -17,6 +17,7 @@ use Rattle.state.specs.declared.Measured.{Measured}
 use Rattle.state.specs.declared.Stores.{Stores}
 use Rattle.state.specs.declared.Core.{Core}
 use Rattle.state.specs.declared.State.{State}
+use Rattle.state.specs.declared.Tested.{Tested}
 
 -- ---- a fresh device
 
@@ -120,6 +121,10 @@ core_b c =
 
 unfoldable pub whole_b : State → Bool
 whole_b s = core_b s.core && session_b s.keypad && session_b s.port
+
+-- a state with the outcome of that test
+unfoldable pub tested : State → Tested
+tested s = record { state = s; sound = whole_b s }
 
 -- ---- a state with another core
 

@@ -4,13 +4,15 @@
 pub mod faults;
 
 ghost use Rattle.std.specs.Prelude.{◌≡◌, not, ◌||◌, get_or, set};
-ghost use Rattle.state.specs.State.{blank_cell, no_session, nothing_counted, no_alarm, shut_locks, fresh_core, fresh, cell_b, cells_b, session_b, counters_b, totals_b, latched_b, stores_b, measured_b, core_b, whole_b, with_core};
+ghost use Rattle.state.specs.State.{blank_cell, no_session, nothing_counted, no_alarm, shut_locks, fresh_core, fresh, cell_b, cells_b, session_b, counters_b, totals_b, latched_b, stores_b, measured_b, core_b, whole_b, tested, with_core};
 ghost use Rattle.ground.specs.Below.{all_below};
 ghost use Rattle.settings.specs.Settings.{setting_count, fits_b};
 
+pub use faults::Fault;
+
 // Main, disturbed and total at measurement conditions (Vm, VmD, VmT), and the same three at base conditions (Vb, VbD, VbT). The totals are kept because
 // the display board asks for them every second.
-#[derive(Clone, Copy)]
+#[derive(Clone, Copy, PartialEq, Eq)]
 pub struct Counters {
     pub vm: units::Litres,
     pub vmd: units::Litres,
@@ -21,7 +23,7 @@ pub struct Counters {
 }
 
 // One flag for each alarm: pressure, temperature, K.
-#[derive(Clone, Copy)]
+#[derive(Clone, Copy, PartialEq, Eq)]
 pub struct Alarms {
     pub p: bool,
     pub t: bool,
@@ -29,7 +31,7 @@ pub struct Alarms {
 }
 
 // Which of the three locks stand open, and the codes of locks 2 and 3.
-#[derive(Clone, Copy)]
+#[derive(Clone, Copy, PartialEq, Eq)]
 pub struct Locks {
     pub cal: bool,
     pub sup: bool,
@@ -39,7 +41,8 @@ pub struct Locks {
 }
 
 // What a session knows of one setting: the value staged, if there is one; whether it was read; whether it was put in force through the other door
-// after that. The flags stand together, so that a cell takes 24 bytes and not 32: the state is copied at every command.
+// after that.
+// Stays: (a) fixed memory. With an `Option<Value>` a cell takes 32 bytes and not 24, and the state is copied at every command; theorems of `runs` name the fields.
 #[derive(Clone, Copy)]
 pub struct Cell {
     pub value: settings::Value,
@@ -48,6 +51,7 @@ pub struct Cell {
     pub overtaken: bool,
 }
 
+// Stays: (a) a session that is not live may have something staged, and then the state is not whole (`session_b`); an `Option` could not say that.
 #[derive(Clone, Copy)]
 pub struct Session {
     pub live: bool,
@@ -55,7 +59,7 @@ pub struct Session {
 }
 
 // What a cycle measures. No other command changes it.
-#[derive(Clone, Copy)]
+#[derive(Clone, Copy, PartialEq, Eq)]
 pub struct Measured {
     pub time: u64,
     pub month: u64,
@@ -64,7 +68,7 @@ pub struct Measured {
 }
 
 // What is kept of the three stores.
-#[derive(Clone, Copy)]
+#[derive(Clone, Copy, PartialEq, Eq)]
 pub struct Stores {
     pub archive: ring::Ring,
     pub log: ring::Book,
@@ -90,8 +94,15 @@ pub struct State {
     pub port: Session,
 }
 
-// What one moment shows: time, counters with their totals, alarms, latches and locks.
+// A state, and whether it is whole. That is tested once, by `Tested::of`, for all that is then asked of the state.
 #[derive(Clone, Copy)]
+pub struct Tested {
+    pub state: State,
+    pub sound: bool,
+}
+
+// What one moment shows: time, counters with their totals, alarms, latches and locks.
+#[derive(Clone, Copy, PartialEq, Eq)]
 pub struct Moment {
     pub time: u64,
     pub counters: Counters,
@@ -104,84 +115,103 @@ pub struct Moment {
 
 // ---- a fresh device
 
+const BLANK: Cell = Cell {
+    staged: false,
+    value: settings::Value::Whole(0),
+    read: false,
+    overtaken: false,
+};
+
 pub fn cell_at(a: [Cell; settings::COUNT], k: usize) -> Cell
     ensures { result ≡ get_or a k blank_cell }
 {
-    if k < settings::COUNT {
-        a[k]
-    } else {
-        Cell {
-            staged: false,
-            value: settings::Value::Whole(0),
-            read: false,
-            overtaken: false,
-        }
-    }
+    ground::at(&a, k, BLANK)
 }
 
-pub fn cell_put(a: [Cell; settings::COUNT], k: usize, x: Cell) -> [Cell; settings::COUNT]
+pub fn cell_put(mut a: [Cell; settings::COUNT], k: usize, x: Cell) -> [Cell; settings::COUNT]
     ensures { result ≡ set a k x }
 {
-    if k < settings::COUNT {
-        let mut b = a;
-        b[k] = x;
-        b
-    } else {
-        a
-    }
+    ground::put(&mut a, k, x);
+    a
 }
 
 #[tactic(auto, unfolding(crate::specs::State::no_session))]
 pub fn no_session() -> Session
     ensures { result ≡ no_session }
 {
-    let blank = Cell {
-        staged: false,
-        value: settings::Value::Whole(0),
-        read: false,
-        overtaken: false,
-    };
     Session {
         live: false,
-        cells: [blank; settings::COUNT],
+        cells: [BLANK; settings::COUNT],
     }
 }
 
-#[tactic(auto, unfolding(crate::specs::State::nothing_counted))]
-fn no_counts() -> Counters
-    ensures { result ≡ nothing_counted }
-{
-    Counters {
-        vm: units::Litres(0),
-        vmd: units::Litres(0),
-        vmt: units::Litres(0),
-        vb: units::BaseUnits(0),
-        vbd: units::BaseUnits(0),
-        vbt: units::BaseUnits(0),
+impl Counters {
+    #[tactic(auto, unfolding(crate::specs::State::nothing_counted))]
+    fn nothing() -> Counters
+        ensures { result ≡ nothing_counted }
+    {
+        Counters {
+            vm: units::Litres(0),
+            vmd: units::Litres(0),
+            vmt: units::Litres(0),
+            vb: units::BaseUnits(0),
+            vbd: units::BaseUnits(0),
+            vbt: units::BaseUnits(0),
+        }
+    }
+
+    #[tactic(auto, unfolding(crate::specs::State::counters_b))]
+    fn are_in_range(self) -> bool
+        ensures { result ≡ counters_b self }
+    {
+        units::litres_ok(self.vm)
+            && units::litres_ok(self.vmd)
+            && units::base_ok(self.vb)
+            && units::base_ok(self.vbd)
+    }
+
+    // The totals are kept, so they may be wrong.
+    #[tactic(auto, unfolding(crate::specs::State::totals_b))]
+    fn have_right_totals(self) -> bool
+        ensures { result ≡ totals_b self }
+    {
+        self.vmt == units::add_litres(self.vm, self.vmd)
+            && self.vbt == units::add_base(self.vb, self.vbd)
     }
 }
 
-#[tactic(auto, unfolding(crate::specs::State::no_alarm))]
-fn no_alarms() -> Alarms
-    ensures { result ≡ no_alarm }
-{
-    Alarms {
-        p: false,
-        t: false,
-        k: false,
+impl Alarms {
+    #[tactic(auto, unfolding(crate::specs::State::no_alarm))]
+    fn none() -> Alarms
+        ensures { result ≡ no_alarm }
+    {
+        Alarms {
+            p: false,
+            t: false,
+            k: false,
+        }
+    }
+
+    #[tactic(auto, unfolding(crate::specs::State::latched_b))]
+    fn are_latched_in(self, latches: Alarms) -> bool
+        ensures { result ≡ latched_b self latches }
+    {
+        (!self.p || latches.p) && (!self.t || latches.t) && (!self.k || latches.k)
     }
 }
 
-#[tactic(auto, unfolding(crate::specs::State::shut_locks))]
-fn shut_locks(supcode: u32, custcode: u32) -> Locks
-    ensures { result ≡ shut_locks supcode custcode }
-{
-    Locks {
-        cal: false,
-        sup: false,
-        cust: false,
-        supcode: supcode,
-        custcode: custcode,
+impl Locks {
+    #[tactic(auto, unfolding(crate::specs::State::shut_locks))]
+    fn shut(supcode: u32, custcode: u32) -> Locks
+        ensures { result ≡ shut_locks supcode custcode }
+    {
+        Locks {
+            cal: false,
+            sup: false,
+            cust: false,
+            supcode,
+            custcode,
+        }
     }
 }
 
@@ -189,34 +219,27 @@ fn shut_locks(supcode: u32, custcode: u32) -> Locks
 fn fresh_core(time: u64, locks: Locks) -> Core
     ensures { result ≡ fresh_core time locks }
 {
-    let month = calendar::month_of(time);
-    let counters = no_counts();
-    let none = no_alarms();
-    let factory = settings::factory_settings();
-    let outputs = outputs::fresh_outputs();
     let empty = ring::Ring { held: 0, next: 0 };
     let book = ring::Book {
         ring: empty,
         number: 0,
     };
-    let stores = Stores {
-        archive: empty,
-        log: book,
-        audit: book,
-    };
-    let measured = Measured {
-        time: time,
-        month: month,
-        counters: counters,
-        alarms: none,
-    };
     Core {
-        measured: measured,
-        latches: none,
-        locks: locks,
-        settings: factory,
-        outputs: outputs,
-        stores: stores,
+        measured: Measured {
+            time,
+            month: calendar::month_of(time),
+            counters: Counters::nothing(),
+            alarms: Alarms::none(),
+        },
+        latches: Alarms::none(),
+        locks,
+        settings: settings::factory_settings(),
+        outputs: outputs::fresh_outputs(),
+        stores: Stores {
+            archive: empty,
+            log: book,
+            audit: book,
+        },
     }
 }
 
@@ -224,174 +247,92 @@ fn fresh_core(time: u64, locks: Locks) -> Core
 pub fn fresh_state(time: u64, supcode: u32, custcode: u32) -> State
     ensures { result ≡ fresh time supcode custcode }
 {
-    let locks = shut_locks(supcode, custcode);
-    let core = fresh_core(time, locks);
-    let none = no_session();
     State {
-        core: core,
-        keypad: none,
-        port: none,
+        core: fresh_core(time, Locks::shut(supcode, custcode)),
+        keypad: no_session(),
+        port: no_session(),
     }
 }
 
 // ---- when a state is whole
 
-fn implies(a: bool, b: bool) -> bool
-    ensures { result ≡ (not a || b) }
-{
-    if a { b } else { true }
-}
-
-#[tactic(auto, unfolding(crate::specs::State::counters_b))]
-fn counters_ok(c: Counters) -> bool
-    ensures { result ≡ counters_b c }
-{
-    let a = units::litres_ok(c.vm);
-    let b = units::litres_ok(c.vmd);
-    let d = units::base_ok(c.vb);
-    let e = units::base_ok(c.vbd);
-    let f = ground::both(a, b);
-    let g = ground::both(f, d);
-    ground::both(g, e)
-}
-
-// The totals are kept, so they may be wrong.
-#[tactic(auto, unfolding(crate::specs::State::totals_b))]
-fn totals_ok(c: Counters) -> bool
-    ensures { result ≡ totals_b c }
-{
-    let vmt = units::add_litres(c.vm, c.vmd);
-    let vbt = units::add_base(c.vb, c.vbd);
-    let a = c.vmt.0 == vmt.0;
-    let b = c.vbt.0 == vbt.0;
-    ground::both(a, b)
-}
-
-#[tactic(auto, unfolding(crate::specs::State::latched_b))]
-fn latched_ok(present: Alarms, latch: Alarms) -> bool
-    ensures { result ≡ latched_b present latch }
-{
-    let a = implies(present.p, latch.p);
-    let b = implies(present.t, latch.t);
-    let c = implies(present.k, latch.k);
-    let d = ground::both(a, b);
-    ground::both(d, c)
-}
-
-#[tactic(auto, unfolding(crate::specs::State::stores_b))]
-fn stores_ok(x: Stores) -> bool
-    ensures { result ≡ stores_b x }
-{
-    let a = ring::ring_ok(ring::ARCHIVE_LINES, x.archive);
-    let b = ring::book_ok(ring::LOG_LINES, ring::LOG_STEP, x.log);
-    let c = ring::book_ok(ring::AUDIT_LINES, ring::AUDIT_STEP, x.audit);
-    let d = ground::both(a, b);
-    ground::both(d, c)
-}
-
-// Only what is staged has to fit; where nothing is, the table is not looked at.
-fn staged_ok(staged: bool, k: usize, v: settings::Value) -> bool
-    ensures { result ≡ (not staged || fits_b k v) }
-{
-    if staged {
-        settings::setting_fits(k, v)
-    } else {
-        true
+impl Stores {
+    #[tactic(auto, unfolding(crate::specs::State::stores_b))]
+    fn are_whole(self) -> bool
+        ensures { result ≡ stores_b self }
+    {
+        self.archive.is_whole(ring::ARCHIVE_LINES)
+            && self.log.is_whole(ring::LOG_LINES, ring::LOG_STEP)
+            && self.audit.is_whole(ring::AUDIT_LINES, ring::AUDIT_STEP)
     }
 }
 
-#[tactic(auto, unfolding(crate::specs::State::cell_b))]
-fn touched_ok(live: bool, k: usize, c: Cell) -> bool
-    ensures { result ≡ cell_b live k c }
-{
-    let v = c.value;
-    let a = staged_ok(c.staged, k, v);
-    let b = implies(c.overtaken, c.read);
-    let touched = ground::either(c.staged, c.read);
-    let d = implies(touched, live);
-    let e = ground::both(a, b);
-    ground::both(e, d)
-}
-
-// 58 cells are tested each time, and in most nothing is staged or read: for these only the last mark is looked at.
-#[tactic(auto, unfolding(crate::specs::State::cell_b))]
-fn cell_ok(live: bool, k: usize, c: Cell) -> bool
-    ensures { result ≡ cell_b live k c }
-{
-    let touched = ground::either(c.staged, c.read);
-    if touched {
-        touched_ok(live, k, c)
-    } else {
-        !c.overtaken
+impl Cell {
+    // Of the setting at place k. `live` says whether a session is open. In most cells nothing is staged, so the table is seldom looked at.
+    #[tactic(auto, unfolding(crate::specs::State::cell_b))]
+    fn is_whole(self, live: bool, k: usize) -> bool
+        ensures { result ≡ cell_b live k self }
+    {
+        (!self.staged || settings::setting_fits(k, self.value))
+            && (!self.overtaken || self.read)
+            && (!(self.staged || self.read) || live)
     }
 }
 
-#[tactic(auto, unfolding(ground::specs::Below::all_below, crate::specs::State::cells_b))]
-fn cells_ok(live: bool, cells: [Cell; settings::COUNT]) -> bool
-    ensures { result ≡ all_below (cells_b live cells) setting_count }
-{
-    let mut good = true;
-    for k in 0..settings::COUNT {
-        let c = cells[k];
-        let fine = cell_ok(live, k, c);
-        let next = ground::both(fine, good);
-        good = next;
+impl Session {
+    fn is_whole(self) -> bool
+        ensures { result ≡ session_b self }
+    {
+        self.cells
+            .iter()
+            .enumerate()
+            .all(|(k, c)| c.is_whole(self.live, k))
     }
-    good
 }
 
-#[tactic(auto, unfolding(crate::specs::State::session_b))]
-fn session_ok(x: Session) -> bool
-    ensures { result ≡ session_b x }
-{
-    let cells = x.cells;
-    cells_ok(x.live, cells)
+impl Measured {
+    #[tactic(auto, unfolding(crate::specs::State::measured_b))]
+    fn is_whole(self) -> bool
+        ensures { result ≡ measured_b self }
+    {
+        self.time < calendar::END_OF_TIME
+            && self.counters.are_in_range()
+            && self.counters.have_right_totals()
+            && calendar::month_holds(self.month, self.time)
+    }
 }
 
-#[tactic(auto, unfolding(crate::specs::State::measured_b))]
-fn measured_ok(m: Measured) -> bool
-    ensures { result ≡ measured_b m }
-{
-    let time = m.time < calendar::END_OF_TIME;
-    let counters = counters_ok(m.counters);
-    let totals = totals_ok(m.counters);
-    let month = calendar::month_holds(m.month, m.time);
-    let a = ground::both(time, counters);
-    let b = ground::both(a, totals);
-    ground::both(b, month)
-}
-
-#[tactic(auto, unfolding(crate::specs::State::core_b))]
-fn core_ok(c: Core) -> bool
-    ensures { result ≡ core_b c }
-{
-    let a = c.settings;
-    let o = c.outputs;
-    let measured = measured_ok(c.measured);
-    let fit = settings::settings_fit(a);
-    let ordered = settings::pairs_ordered(a);
-    let latched = latched_ok(c.measured.alarms, c.latches);
-    let outputs = outputs::outputs_ok(o, a);
-    let stores = stores_ok(c.stores);
-    let d = ground::both(measured, fit);
-    let e = ground::both(d, ordered);
-    let f = ground::both(e, latched);
-    let g = ground::both(f, outputs);
-    ground::both(g, stores)
+impl Core {
+    #[tactic(auto, unfolding(crate::specs::State::core_b))]
+    fn is_whole(self) -> bool
+        ensures { result ≡ core_b self }
+    {
+        self.measured.is_whole()
+            && settings::settings_fit(self.settings)
+            && settings::pairs_ordered(self.settings)
+            && self.measured.alarms.are_latched_in(self.latches)
+            && outputs::outputs_ok(self.outputs, self.settings)
+            && self.stores.are_whole()
+    }
 }
 
 #[tactic(auto, unfolding(crate::specs::State::whole_b))]
 pub fn whole(s: State) -> bool
     ensures { result ≡ whole_b s }
 {
-    let core = s.core;
-    let keypad = s.keypad;
-    let port = s.port;
-    let a = core_ok(core);
-    let b = session_ok(keypad);
-    let c = session_ok(port);
-    let d = ground::both(a, b);
-    ground::both(d, c)
+    s.core.is_whole() && s.keypad.is_whole() && s.port.is_whole()
+}
+
+impl Tested {
+    #[tactic(auto, unfolding(crate::specs::State::tested))]
+    pub fn of(state: State) -> Tested
+        ensures { result ≡ tested state }
+    {
+        Tested {
+            state,
+            sound: whole(state),
+        }
+    }
 }
 
 // ---- another core
@@ -400,7 +341,5 @@ pub fn whole(s: State) -> bool
 pub fn with_core(s: State, core: Core) -> State
     ensures { result ≡ with_core s core }
 {
-    let mut after = s;
-    after.core = core;
-    after
+    State { core, ..s }
 }

@@ -3,6 +3,7 @@
 use mathlib.Core.Path.{◌≡◌, refl, sym, ap, ◌∙◌}
 use mathlib.Core.Bool.{Bool, true, false}
 use mathlib.Core.List.{List}
+use Rattle.std.proofs.Common.{Option}
 use Prim.Native.Nat.{ℕ}
 use native.Mathlib.Omega.{arith}
 use lib.Dec.{ltb, leb, eqb}
@@ -39,7 +40,7 @@ use Rattle.steps.specs.Step.{step}
 -- ---- the core
 
 -- what a cycle measures, its time being before the end of 2099
-measured_stays : (m : Measured) (time : ℕ) (found : Alarms) (amounts : Amounts) → ltb time end_of_time ≡ true → measured_b m ≡ true → measured_b (measured_by m time found amounts) ≡ true
+measured_stays : (m : Measured) (time : ℕ) (found : Alarms) (amounts : Option Amounts) → ltb time end_of_time ≡ true → measured_b m ≡ true → measured_b (measured_by m time found amounts) ≡ true
 unfolding measured_b
 measured_stays m time found amounts h e =
     let s = measured_sound m e in

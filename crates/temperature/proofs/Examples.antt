@@ -2,10 +2,9 @@
 -- H6 of document 01 are rows of the table in the crate cases.
 -- A float is `fin s m e`, which is ± m · 2^e, or `of_bits binary64` of its bits.
 -- Assumes nothing.
-use Rattle.std.proofs.Common.{◌≡◌, true, false, pos, negsuc, refl}
+use Rattle.std.proofs.Common.{◌≡◌, true, false, pos, negsuc, refl, Some, None}
 use lib.Ieee.{nan, inf, fin, binary64, of_bits, mul, add, of_int}
 use Rattle.temperature.specs.declared.Coefficients.{Coefficients}
-use Rattle.temperature.specs.declared.Measured.TheVariants.{Failed, Hundredths}
 use Rattle.temperature.specs.Equation.{hundred, equation_of}
 use Rattle.temperature.specs.Nearest.{nearest_of}
 
@@ -15,38 +14,38 @@ unfolding of_bits
 hundred_is = refl
 
 -- the upper end
-pub highest : nearest_of (fin false 625 (pos 5)) ≡ Hundredths (pos 20000)
+pub highest : nearest_of (fin false 625 (pos 5)) ≡ Some (pos 20000)
 unfolding nearest_of
 highest = refl
 
 -- the next float above 20,000
-pub past_highest : nearest_of (of_bits binary64 0x40d3_8800_0000_0001) ≡ Failed
+pub past_highest : nearest_of (of_bits binary64 0x40d3_8800_0000_0001) ≡ None
 unfolding nearest_of of_bits
 past_highest = refl
 
 -- the other end, and the next float below it
-lowest : nearest_of (fin true 625 (pos 4)) ≡ Hundredths (negsuc 9999)
+lowest : nearest_of (fin true 625 (pos 4)) ≡ Some (negsuc 9999)
 unfolding nearest_of
 lowest = refl
 
-past_lowest : nearest_of (of_bits binary64 0xc0c3_8800_0000_0001) ≡ Failed
+past_lowest : nearest_of (of_bits binary64 0xc0c3_8800_0000_0001) ≡ None
 unfolding nearest_of of_bits
 past_lowest = refl
 
 -- -2,000.5, and the float below a half: adding a half in floats goes wrong at both
-half_below_2000 : nearest_of (fin true 4001 (negsuc 0)) ≡ Hundredths (negsuc 2000)
+half_below_2000 : nearest_of (fin true 4001 (negsuc 0)) ≡ Some (negsuc 2000)
 unfolding nearest_of
 half_below_2000 = refl
 
-under_half : nearest_of (of_bits binary64 0x3fdf_ffff_ffff_ffff) ≡ Hundredths (pos 0)
+under_half : nearest_of (of_bits binary64 0x3fdf_ffff_ffff_ffff) ≡ Some (pos 0)
 unfolding nearest_of of_bits
 under_half = refl
 
-no_number : nearest_of nan ≡ Failed
+no_number : nearest_of nan ≡ None
 unfolding nearest_of
 no_number = refl
 
-infinite : nearest_of (inf true) ≡ Failed
+infinite : nearest_of (inf true) ≡ None
 unfolding nearest_of
 infinite = refl
 

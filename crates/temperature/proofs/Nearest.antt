@@ -1,12 +1,11 @@
 -- What an answer in hundredths must satisfy, and only one number can: it lies within -10,000..20,000 and within half a unit of the exact value, and at a half it is
 -- the number away from zero. Stated on whole numbers, after multiplying out.
 -- Assumes nothing.
-use Rattle.std.proofs.Common.{◌≡◌, ℕ, zero, suc, ◌+◌, ◌-◌, ◌*◌, ◌<◌, ◌≤◌, Bool, true, false, cond, ℤ, pos, neg_ℤ, nat_abs, sym, refl, ap, ◌∙◌, subst, lt_of_le_of_lt, div-lt_iff_lt-mul, add-mul, lt_of_mul-lt-mul_right, div-mul-le_self, mul_left_comm, arith, le-ltb, leb-true}
+use Rattle.std.proofs.Common.{◌≡◌, ℕ, zero, suc, ◌+◌, ◌-◌, ◌*◌, ◌<◌, ◌≤◌, Bool, true, false, cond, ℤ, pos, neg_ℤ, nat_abs, sym, refl, ap, ◌∙◌, subst, lt_of_le_of_lt, div-lt_iff_lt-mul, add-mul, lt_of_mul-lt-mul_right, div-mul-le_self, mul_left_comm, arith, le-ltb, leb-true, Some, None}
 use native.Mathlib.Numerals.{lt-add-one}
 use lib.Signed.{lt_z}
 use lib.Ieee.{Float, nan, inf, fin, up, down}
 use lib.Ieee.Fits.{down_pos}
-use Rattle.temperature.specs.declared.Measured.TheVariants.{Failed, Hundredths}
 use Rattle.ground.specs.Ranges.{coldest, hottest}
 use Rattle.temperature.specs.Nearest.{in_range, nearest_size, signed, nearest_of}
 
@@ -59,12 +58,12 @@ one_nearest s n d y z a b = a.sign ∙ ap (signed s) (same (nat_abs y) (nat_abs 
     same p q h k i j = omega (arith, below p q h j, below q p i k)
 
 -- an answer comes from a finite float in the range
-picked : (b : Bool) (y z : ℤ) → cond b (Hundredths y) Failed ≡ Hundredths z → (b ≡ true) × (y ≡ z)
+picked : (b : Bool) (y z : ℤ) → cond b (Some y) None ≡ Some z → (b ≡ true) × (y ≡ z)
 picked true y z e = (refl, cc)
 picked false y z e = absurd (let o : ◌≡◌ {A = ℕ} 0 1 = cc in omega arith)
 
 -- the law: a float ± m · 2^e that is answered is answered by the nearest whole number
-pub answered_nearest : (s : Bool) (m : ℕ) (e : ℤ) (z : ℤ) → nearest_of (fin s m e) ≡ Hundredths z → IsNearest s (m * up e) (down e) z
+pub answered_nearest : (s : Bool) (m : ℕ) (e : ℤ) (z : ℤ) → nearest_of (fin s m e) ≡ Some z → IsNearest s (m * up e) (down e) z
 unfolding nearest_of
 answered_nearest s m e z h =
     let n = m * up e in
@@ -91,7 +90,7 @@ in_range_of : (s : Bool) (n d : ℕ) → 0 < d → in_range s n d ≡ true → I
 in_range_of false n d D h = record { not_colder = refl; not_hotter = le-ltb 20000 (nearest_size n d) (size_at_most 20000 n d D (leb-true n (20000 * d) h)) }
 in_range_of true n d D h = below_zero_lem (nearest_size n d) (size_at_most 10000 n d D (leb-true n (10000 * d) h))
 
-pub answered_in_range : (x : Float) (z : ℤ) → nearest_of x ≡ Hundredths z → InRange z
+pub answered_in_range : (x : Float) (z : ℤ) → nearest_of x ≡ Some z → InRange z
 unfolding nearest_of
 answered_in_range nan z h = absurd (let o : ◌≡◌ {A = ℕ} 0 1 = cc in omega arith)
 answered_in_range (inf s) z h = absurd (let o : ◌≡◌ {A = ℕ} 0 1 = cc in omega arith)

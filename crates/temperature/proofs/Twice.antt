@@ -1,7 +1,7 @@
 -- For a float x within -10,000..20,000: x + x is exact, its whole part fits an i64, and half of that, rounded away from zero, is the whole number nearest x.
 -- The size of x is n / d, with n = m · up e and d = down e.
 -- Assumes nothing.
-use Rattle.std.proofs.Common.{◌≡◌, ℕ, zero, suc, ◌+◌, ◌-◌, ◌*◌, ◌/◌, ◌%◌, ◌^◌, ◌<◌, ◌≤◌, min, Bool, true, false, cond, ◌&&◌, T, eqb, ltb, leb, ℤ, pos, negsuc, neg_ℤ, sym, refl, ap, ◌∙◌, subst, le_trans, le_of_eq, le_refl, lt_of_lt_of_le, le_of_suc-le-suc, lt_of_le_of_lt, lt_irrefl, mul-le-mul_right, mul_assoc, mul_comm, add-mul, lt_of_mul-lt-mul_right, mul-lt-mul_of_pos_right, mul-pos, one-mul, pow-suc, lt_of_not-le, mul-one, mul_right_comm, le_of_mul-le-mul_right, arith, lit<, lit≤, eqb→eq, ltb→lt, lt→ltb, leb→le, pow_pos, pow_mono, pow-add}
+use Rattle.std.proofs.Common.{◌≡◌, ℕ, zero, suc, ◌+◌, ◌-◌, ◌*◌, ◌/◌, ◌%◌, ◌^◌, ◌<◌, ◌≤◌, min, Bool, true, false, cond, ◌&&◌, T, eqb, ltb, leb, ℤ, pos, negsuc, neg_ℤ, sym, refl, ap, ◌∙◌, subst, le_trans, le_of_eq, le_refl, lt_of_lt_of_le, le_of_suc-le-suc, lt_of_le_of_lt, lt_irrefl, mul-le-mul_right, mul_assoc, mul_comm, add-mul, lt_of_mul-lt-mul_right, mul-lt-mul_of_pos_right, mul-pos, one-mul, pow-suc, lt_of_not-le, mul-one, mul_right_comm, le_of_mul-le-mul_right, arith, lit<, lit≤, eqb→eq, ltb→lt, lt→ltb, leb→le, pow_pos, pow_mono, pow-add, Option, Some, None}
 use native.Mathlib.Nat.{add-div_right, div-div-eq-div-mul, div-le_of_le-mul}
 use lib.Pow.{pow-lt}
 use lib.Ieee.{Float, nan, inf, fin, binary64, up, down, round, sum, add, lt, eq, le, fits, to_signed}
@@ -9,8 +9,6 @@ use lib.Ieee.Fits.{down_pos, and_l, and_r}
 use lib.Ieee.Exact.{HasValue, round_exact}
 use lib.Ieee.Nearest.{div_same}
 use lib.Ieee.Scale.{round_same}
-use Rattle.temperature.specs.declared.Measured.{Measured}
-use Rattle.temperature.specs.declared.Measured.TheVariants.{Failed, Hundredths}
 use Rattle.temperature.specs.Nearest.{in_range, nearest_size, signed, nearest_of}
 use Rattle.temperature.proofs.Range.{Within, first_holds, apart}
 use Rattle.temperature.proofs.Half.{half_away}
@@ -119,7 +117,7 @@ twice_at_most : (s : Bool) (n d : ℕ) → T (in_range s n d) → n + n ≤ 4000
 twice_at_most false n d t = omega (arith, leb→le n (20000 * d) t)
 twice_at_most true n d t = omega (arith, leb→le n (10000 * d) t)
 
-chosen : (b : Bool) (z : Measured) → T b → z ≡ cond b z Failed
+chosen : (b : Bool) (z : Option ℤ) → T b → z ≡ cond b z None
 chosen true z t = refl
 chosen false z t = elim t [ ]
 
@@ -127,7 +125,7 @@ chosen false z t = elim t [ ]
 pub record Doubled (x : Float) : Type 0 where
   pub not_low : T (le (fin true 1 (pos 63)) (add binary64 x x))
   pub not_high : T (lt (add binary64 x x) (fin false 1 (pos 63)))
-  pub answer : Hundredths (half_away (to_signed 63 (add binary64 x x))) ≡ nearest_of x
+  pub answer : Some (half_away (to_signed 63 (add binary64 x x))) ≡ nearest_of x
 
 pub doubled_of : (x : Float) → T (fits binary64 x) → Within x → Doubled x
 unfolding nearest_of
@@ -145,5 +143,5 @@ doubled_of (fin s m e) f w =
     record {
       not_low = asks.0;
       not_high = asks.1;
-      answer = ap (λ (z : ℤ). Hundredths (half_away z)) is ∙ ap Hundredths (half_of_signed s ((n + n) / d) (nearest_size n d) (half_is_nearest n d D)) ∙ chosen (in_range s n d) (Hundredths (signed s (nearest_size n d))) w;
+      answer = ap (λ (z : ℤ). Some (half_away z)) is ∙ ap Some (half_of_signed s ((n + n) / d) (nearest_size n d) (half_is_nearest n d D)) ∙ chosen (in_range s n d) (Some (signed s (nearest_size n d))) w;
     }

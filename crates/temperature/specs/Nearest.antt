@@ -2,12 +2,10 @@
 -- A finite float is `fin s m e`: ± m · 2^e, with a minus where s is true. Its size m · 2^e is written n / d in whole numbers: n is
 -- m · up e and d is down e, and one of up e and down e is 1.
 -- Assumes nothing.
-use Rattle.std.specs.Prelude.{ℕ, ◌+◌, ◌*◌, ◌/◌, Bool, true, false, cond, ℤ, pos, neg_ℤ, nat_le, unsigned_abs, Float}
+use Rattle.std.specs.Prelude.{ℕ, ◌+◌, ◌*◌, ◌/◌, Bool, true, false, cond, ℤ, pos, neg_ℤ, nat_le, unsigned_abs, Option, Some, None, Float}
 use Rattle.std.specs.Float.{nan, inf, fin}
 use Rattle.std.specs.Float.Ieee.{up, down}
 use Rattle.ground.specs.Ranges.{coldest, hottest}
-use Rattle.temperature.specs.declared.Measured.{Measured}
-use Rattle.temperature.specs.declared.Measured.TheVariants.{Failed, Hundredths}
 
 -- n / d with the sign s is within -10,000..20,000, after multiplying out
 abbrev pub in_range : Bool → ℕ → ℕ → Bool
@@ -23,8 +21,8 @@ abbrev pub signed : Bool → ℕ → ℤ
 signed false r = pos r
 signed true r = neg_ℤ (pos r)
 
--- an x that is not a number, or not within -10,000..20,000, counts as failed
-unfoldable pub nearest_of : Float → Measured
-nearest_of nan = Failed
-nearest_of (inf s) = Failed
-nearest_of (fin s m e) = cond (in_range s (m * up e) (down e)) (Hundredths (signed s (nearest_size (m * up e) (down e)))) Failed
+-- T.Mes in hundredths of a degree; None: the measurement failed. An x that is not a number, or not within -10,000..20,000, counts as failed
+unfoldable pub nearest_of : Float → Option ℤ
+nearest_of nan = None
+nearest_of (inf s) = None
+nearest_of (fin s m e) = cond (in_range s (m * up e) (down e)) (Some (signed s (nearest_size (m * up e) (down e)))) None

@@ -20,19 +20,12 @@ pub struct Coefficients {
     pub eq3: f64,
 }
 
-// T.Mes in 0.01 °C, or that the measurement failed.
-#[derive(Clone, Copy)]
-pub enum Measured {
-    Failed,
-    Hundredths(i64),
-}
-
 // Six operations, each rounding once. The order is part of the promise: another order can give another float. A raw value is exact as a float.
 #[tactic(auto, unfolding(crate::specs::Equation::equation_of))]
 pub fn equation(c: Coefficients, raw: u16) -> f64
     ensures { result ≡ equation_of c raw }
 {
-    let b = raw as f64;
+    let b = f64::from(raw);
     let square = b * b;
     let linear = c.eq2 * b;
     let quadratic = c.eq3 * square;
@@ -41,21 +34,22 @@ pub fn equation(c: Coefficients, raw: u16) -> f64
     degrees * 100.0
 }
 
+// T.Mes in hundredths of a degree; None: the measurement failed.
 // x + 0.5 could itself be rounded, so it is not used. x + x is exact. The answer is half of its whole part t, rounded away from zero: t / 2 rounds toward zero, and
 // the remainder t % 2, which is -1, 0 or 1, makes up for it.
-pub fn nearest_hundredth(x: f64) -> Measured
+pub fn nearest_hundredth(x: f64) -> Option<i64>
     ensures { result ≡ nearest_of x }
 {
-    if x >= COLDEST {
-        if x <= HOTTEST {
-            let t = std::num::truncating_f64_to_i64(x + x);
-            return Measured::Hundredths(t / 2 + t % 2);
-        }
+    if (COLDEST..=HOTTEST).contains(&x) {
+        let t = std::num::truncating_f64_to_i64(x + x);
+        Some(t / 2 + t % 2)
+    } else {
+        None
     }
-    Measured::Failed
 }
 
-pub fn measure(c: Coefficients, raw: u16) -> Measured
+// T.Mes in hundredths of a degree; None: the measurement failed.
+pub fn measure(c: Coefficients, raw: u16) -> Option<i64>
     ensures { result ≡ nearest_of (equation_of c raw) }
 {
     nearest_hundredth(equation(c, raw))

@@ -1,44 +1,53 @@
 -- Laws for the loops that go through a line byte by byte.
 -- Assumes nothing.
-use mathlib.Core.Path.{◌≡◌, refl, sym, ap, ◌∙◌}
-use mathlib.Core.Bool.{Bool, true, false, cond}
-use mathlib.Core.List.{List, [], ◌∷◌, ◌++◌}
+use mathlib.Core.Path.{◌≡◌, refl, sym, ap, ◌∙◌, subst, subst⁻¹}
+use mathlib.Core.Bool.{Bool, true, false, cond, not}
+use mathlib.Core.List.{List, [], ◌∷◌}
 use Prim.Native.Nat.{ℕ, suc, ◌+◌, ◌-◌, ◌≤◌, ◌<◌, zero-le, suc-le-suc}
-use native.Mathlib.Nat.{add_comm, le_refl}
+use native.Mathlib.Nat.{le_refl}
 use native.Mathlib.Numerals.{add-one}
 use native.Mathlib.Omega.{arith}
 use lib.Dec.{eqb, ltb}
-use lib.ListN.{length, get_or, take, drop, set, length-drop}
-use lib.Seq.{drop-cons, drop-length, take_all, take-take, length-take-le, get_or-drop, take-suc, take-suc-set, drop-set-lt, drop-drop}
-use borrow.Author.Tests.{eq-eqb, ne_eqb, ltb-true, ltb-false, lt-ltb, le-ltb}
+use Rattle.std.specs.Prelude.{Some, None}
+use Rattle.std.specs.Option.{unwrap_or}
+use Rattle.std.specs.List.{position_or_len, copy_within}
+use Rattle.std.proofs.Math.Seq.{paste}
+use Rattle.std.proofs.lemmas.List.Edits.{take-paste}
+use lib.ListN.{length, take, drop, set, length-drop}
+use lib.Seq.{take_all, take-take, length-take-le, drop-set-lt, drop-drop}
+use borrow.Author.Tests.{ltb-true, ltb-false, lt-ltb, le-ltb}
 use Rattle.text.specs.Words.{first_of, deciding, kept_of, kept_part, Kept}
 
 -- what is left from a place on, taken as a part of the slice
 pub the_rest : (l : List ℕ) (at : ℕ) → take (length l - at) (drop at l) ≡ drop at l
 the_rest l at = take_all (length l - at) (drop at l) (omega (arith, length-drop at l))
 
--- at the byte looked for the search stops
-pub stops : (b : ℕ) (s : List ℕ) (i : ℕ) → i < length s → get_or s i 0 ≡ b → first_of b (drop i s) ≡ 0
-unfolding first_of
-stops b s i h e = rw (drop-cons s i 0 h, eq-eqb (get_or s i 0) b e)
-
--- any other byte is passed
-pub passes : (b : ℕ) (s : List ℕ) (i : ℕ) → i < length s → (get_or s i 0 ≡ b → ⊥) → first_of b (drop i s) ≡ suc (first_of b (drop (suc i) s))
-unfolding first_of
-passes b s i h e = rw (drop-cons s i 0 h, ne_eqb (get_or s i 0) b e)
-
-pub at_end : (b : ℕ) (s : List ℕ) → first_of b (drop (length s) s) ≡ 0
-unfolding first_of
-at_end b s = rw (drop-length s)
-
-by_test : (b : Bool) (m n : ℕ) → m ≤ n → cond b 0 (suc m) ≤ suc n
-by_test true m n h = zero-le
-by_test false m n h = suc-le-suc h
+few_more : (b : Bool) (m n : ℕ) → m ≤ n → cond b 0 (suc m) ≤ suc n
+few_more true m n h = zero-le
+few_more false m n h = suc-le-suc h
 
 pub within : (b : ℕ) (l : List ℕ) → first_of b l ≤ length l
 unfolding first_of
 within b [] = zero-le
-within b (x ∷ l) = by_test (eqb x b) (first_of b l) (length l) (within b l)
+within b (x ∷ l) = few_more (eqb x b) (first_of b l) (length l) (within b l)
+
+-- the first place of a byte, as the library says it
+pub first_found : (b : ℕ) (l : List ℕ) → position_or_len (λ x. eqb x b) l ≡ first_of b l
+unfolding first_of
+first_found b [] = refl
+first_found b (x ∷ l) = by_byte (eqb x b) (first_found b l)
+  where
+    by_byte : (t : Bool) {m n : ℕ} → m ≡ n → cond (not t) (1 + m) 0 ≡ cond t 0 (suc n)
+    by_byte true e = refl
+    by_byte false e = rw e (omega arith)
+
+-- the place of that byte, or the length where there is none
+pub first_or : (b : ℕ) (l : List ℕ) → unwrap_or (cond (ltb (position_or_len (λ x. eqb x b) l) (length l)) (Some (position_or_len (λ x. eqb x b) l)) None) (length l) ≡ first_of b l
+first_or b l = rw (first_found b l) (by_test (ltb (first_of b l) (length l)) refl)
+  where
+    by_test : (t : Bool) → ltb (first_of b l) (length l) ≡ t → unwrap_or (cond t (Some (first_of b l)) None) (length l) ≡ first_of b l
+    by_test true e = refl
+    by_test false e = let h : length l ≤ first_of b l = ltb-false (first_of b l) (length l) e in omega (arith, within b l)
 
 -- ---- an unfinished line
 
@@ -68,23 +77,6 @@ pub none_left : (l : List ℕ) (from to : ℕ) → to ≤ length l → to < from
 unfolding kept_part
 none_left l from to h k = let e : to - from ≡ 0 = omega arith in rw (le-ltb (length l) to h, e)
 
--- one byte more moved to the front
-pub moved_on : (old l : List ℕ) (from i : ℕ) → length l ≡ length old → from + i < length old
-    → take i l ≡ take i (drop from old) → drop i l ≡ drop i old
-    → take (suc i) (set l i (get_or l (from + i) 0)) ≡ take (suc i) (drop from old)
-moved_on old l from i r h t d =
-    let x : get_or l (from + i) 0 ≡ get_or (drop from old) i 0 =
-    ap (λ (k : ℕ). get_or l k 0) (add_comm from i)
-    ∙ sym (get_or-drop i l from 0)
-    ∙ ap (λ (m : List ℕ). get_or m from 0) d
-    ∙ get_or-drop i old from 0
-    ∙ ap (λ (k : ℕ). get_or old k 0) (add_comm i from)
-    ∙ sym (get_or-drop from old i 0) in
-    take-suc-set l i (get_or l (from + i) 0) (omega arith)
-    ∙ ap (λ (m : List ℕ). m ++ (get_or l (from + i) 0 ∷ [])) t
-    ∙ ap (λ (y : ℕ). take i (drop from old) ++ (y ∷ [])) x
-    ∙ sym (take-suc (drop from old) i 0 (omega (arith, length-drop from old)))
-
 pub rest_stays : (old l : List ℕ) (i x : ℕ) → drop i l ≡ drop i old → drop (suc i) (set l i x) ≡ drop (suc i) old
 rest_stays old l i x d =
     drop-set-lt (suc i) l i x (le_refl (suc i))
@@ -103,3 +95,15 @@ all_moved old l from to r h k e =
       most = omega (arith, (kept_few (to - from)).0, r);
       few = (kept_few (to - from)).1;
     }
+
+-- the part is copied to the front
+pub all_copied : (old new : List ℕ) (from to n : ℕ) → to ≤ length old → from ≤ to → n ≡ kept_of (to - from) → length new ≡ length old
+    → new ≡ copy_within old from (from + n) 0 → Kept old new from to n
+all_copied old new from to n h k e r c =
+    let m : n ≤ to - from = rw e (kept_few (to - from)).0 in
+    let i : from + n - from ≡ n = omega arith in
+    let z : 0 + n ≡ n = omega arith in
+    let t : take n new ≡ take n (drop from old) =
+    ap (take n) (c ∙ ap (paste old 0 (drop from old)) i)
+    ∙ subst (λ (x : ℕ). take x (paste old 0 (drop from old) n) ≡ take n (drop from old)) z (take-paste old 0 (drop from old) n zero-le (omega (arith, length-drop from old, m, h))) in
+    subst⁻¹ (λ (x : ℕ). Kept old new from to x) e (all_moved old new from to r h k (subst (λ (x : ℕ). take x new ≡ take x (drop from old)) e t))

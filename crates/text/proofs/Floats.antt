@@ -1,12 +1,11 @@
 -- Which bit patterns of 64 bits are a NaN's, and that 0 by 0 is the one NaN.
 -- Assumes nothing.
 use mathlib.Core.Path.{◌≡◌, refl, sym, ◌∙◌, subst}
-use mathlib.Core.Bool.{Bool, true, false, not}
+use mathlib.Core.Bool.{Bool, true, not}
 use Prim.Native.Nat.{ℕ, ◌%◌, ◌<◌, ◌≤◌}
 use lib.Dec.{T}
-use lib.Ieee.{Float, nan, inf, fin, binary64, of_bits, nan_bits, is_nan, div, eq, ne}
+use lib.Ieee.{Float, nan, inf, fin, binary64, of_bits, nan_bits, is_nan, div}
 use lib.Ieee.Bits.{nan_bits_is, nan_bits_above}
-use lib.Ieee.Compare.{differs_from_itself}
 use borrow.Author.Tests.{lt-ltb, le-ltb}
 
 -- the pattern of an infinity without its sign, and the sign's weight
@@ -31,14 +30,3 @@ nan_made bits h = zero_by_zero ∙ one_nan (of_bits binary64 bits) (sym (nan_bit
 
 pub no_nan : (bits : ℕ) → bits % sign ≤ infinite → T (not (nan_bits binary64 bits))
 no_nan bits h = subst (λ (b : Bool). T (not b)) (sym (nan_bits_above binary64 bits ∙ le-ltb infinite (bits % sign) h)) tt
-
--- a float that equals itself is no NaN, and one that does not is
-pub same_as_itself : (x : Float) → eq x x ≡ true → is_nan x ≡ false
-unfolding eq is_nan
-same_as_itself nan e = sym e
-same_as_itself (inf s) e = refl
-same_as_itself (fin s m d) e = refl
-
-pub itself_not : (x : Float) → eq x x ≡ false → is_nan x ≡ true
-unfolding eq ne is_nan
-itself_not x e = rw (differs_from_itself x (subst (λ (b : Bool). T (not b)) (sym e) tt))

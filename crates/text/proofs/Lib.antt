@@ -1,5 +1,4 @@
 -- Laws that the proofs of this crate cite.
-pub mod Below
 pub mod Bytes
 pub mod Cut
 pub mod Digits

@@ -3,8 +3,8 @@
 use mathlib.Core.Path.{◌≡◌, refl, sym, ap, ◌∙◌}
 use mathlib.Core.Bool.{Bool, true, false, cond}
 use mathlib.Core.List.{List, [], ◌∷◌, ◌++◌, append_assoc, append-nil}
-use Prim.Native.Nat.{ℕ, zero, suc, ◌+◌, ◌*◌, ◌/◌, ◌≤◌, ◌<◌, suc-le-suc}
-use native.Mathlib.Nat.{le_refl}
+use Prim.Native.Nat.{ℕ, zero, suc, ◌+◌, ◌-◌, ◌*◌, ◌/◌, ◌^◌, ◌≤◌, ◌<◌, suc-le-suc}
+use native.Mathlib.Nat.{le_refl, pow-suc}
 use native.Mathlib.Numerals.{add-one}
 use native.Mathlib.Omega.{arith}
 use borrow.Author.Tests.{lt-ltb, le-ltb}
@@ -13,24 +13,22 @@ use lib.ListN.{length, get_or, take}
 use lib.Seq.{take-suc, take_all}
 use lib.IntN.{ℤ, pos, nat_abs}
 use lib.Signed.{lt_z}
+use Rattle.spelling.specs.declared.cursor.Cursor.{Cursor}
 use Rattle.spelling.specs.Spelling.{Put, bytes, digits}
-use Rattle.spelling.proofs.Puts.{two, retext, nothing_put}
-use Rattle.text.specs.Echoes.{places_up_to, places, decimal, spaced, signed, bits_of, joined, value_words, log_words, last_words, hexed, given_words, separated, litres_words, other_words, parsed_text, office_text, office_for, echo_text, enough, text_for}
+use Rattle.spelling.specs.Cursor.{Appends}
+use Rattle.spelling.proofs.Puts as puts
+use Rattle.spelling.proofs.Appended.{two, retext, nothing_put}
+use Rattle.std.specs.List.{flat_map}
+use Rattle.text.specs.Echoes.{places_up_to, places, decimal, spaced, signed, bits_of, joined, value_words, hexed, given_words, separated, litres_words, other_words, parsed_text, office_text, office_for, echo_text, enough, text_for}
 use Rattle.message.specs.declared.Values.{Values}
-use Rattle.reader.specs.declared.Parsed.{Parsed}
-use Rattle.reader.specs.declared.Parsed.TheVariants.{Accepted, Refused}
-use Rattle.books.specs.declared.LogLine.{LogLine}
-use Rattle.commands.specs.declared.Last.{Last}
-use Rattle.commands.specs.declared.Last.TheVariants.{Newest, NoneHeld}
+use Rattle.std.specs.Prelude.{Result, Ok, Err}
+use Rattle.reader.specs.declared.Unread.{Unread}
+use Rattle.reader.specs.Reader.{number_of}
 use Rattle.commands.specs.declared.Given.{Given}
 use Rattle.commands.specs.declared.Echo.{Echo}
 use lib.Ieee.{Float}
 use Rattle.settings.specs.declared.Value.{Value}
 use Rattle.settings.specs.declared.Value.TheVariants.{Whole, Coefficient}
-
-pub places_end : (n : ℕ) → places_up_to 0 n ≡ 1
-unfolding places_up_to
-places_end n = refl
 
 pub places_stop : (m n : ℕ) → n < 10 → places_up_to m n ≡ 1
 unfolding places_up_to
@@ -65,7 +63,7 @@ not_below n k e t = rw (e, t)
 -- ---- words
 
 -- a row of one word
-pub word : {old new : List ℕ} {at next n : ℕ} {w : List ℕ} → Put n old new at next (spaced w) → Put n old new at next (joined (w ∷ []))
+pub word : {old new : Cursor} {n : ℕ} {w : List ℕ} → Appends n old new (spaced w) → Appends n old new (joined (w ∷ []))
 unfolding joined
 word {w = w} p = retext (sym (append-nil (spaced w))) p
 
@@ -75,26 +73,36 @@ joined_both [] vs = refl
 joined_both (w ∷ ws) vs = ap (λ (l : List ℕ). spaced w ++ l) (joined_both ws vs) ∙ sym (append_assoc (spaced w) (joined ws) (joined vs))
 
 -- one row after another
-pub rows : {old mid new : List ℕ} {at a b : ℕ} {m n : ℕ} (ws vs : List (List ℕ)) (k : ℕ) → m + n ≤ k
-    → Put m old mid at a (joined ws) → Put n mid new a b (joined vs) → Put k old new at b (joined (ws ++ vs))
+pub rows : {old mid new : Cursor} {m n : ℕ} (ws vs : List (List ℕ)) (k : ℕ) → m + n ≤ k
+    → Appends m old mid (joined ws) → Appends n mid new (joined vs) → Appends k old new (joined (ws ++ vs))
 rows ws vs k h p q = retext (sym (joined_both ws vs)) (two k h p q)
 
-pub whole_text : (n : ℤ) (v : Value) → v ≡ Whole n → (32 ∷ []) ++ ((119 ∷ []) ++ spaced (signed n)) ≡ joined (value_words v)
+-- one item more, in its words
+flat_more : {A : Type 0} (f : A → List (List ℕ)) (xs ys : List A) → flat_map f (xs ++ ys) ≡ flat_map f xs ++ flat_map f ys
+flat_more f [] ys = refl
+flat_more f (x ∷ xs) ys = ap (λ (l : List (List ℕ)). f x ++ l) (flat_more f xs ys) ∙ sym (append_assoc (f x) (flat_map f xs) (flat_map f ys))
+
+pub none_put : (n : ℕ) (c : Cursor) → Appends n c c (joined [])
+unfolding joined
+none_put n c = nothing_put n c
+
+pub item_more : {A : Type 0} {old mid new : Cursor} (f : A → List (List ℕ)) (most : ℕ) (xs : List A) (i : ℕ) (x d : A) → i < length xs → x ≡ get_or xs i d
+    → Appends (i * most) old mid (joined (flat_map f (take i xs))) → Appends most mid new (joined (f x)) → Appends ((i + 1) * most) old new (joined (flat_map f (take (i + 1) xs)))
+item_more f most xs i x d h e p q =
+    let more : flat_map f (take (i + 1) xs) ≡ flat_map f (take i xs) ++ f x = rw (add-one i, take-suc xs i d h, ← e) (flat_more f (take i xs) (x ∷ []) ∙ ap (λ (l : List (List ℕ)). flat_map f (take i xs) ++ l) (append-nil (f x))) in
+    retext (sym (ap joined more)) (rows (flat_map f (take i xs)) (f x) ((i + 1) * most) (omega arith) p q)
+
+pub all_put : {A : Type 0} {old new : Cursor} (f : A → List (List ℕ)) (most : ℕ) (xs : List A) (n : ℕ) → n ≡ length xs
+    → Appends (n * most) old new (joined (flat_map f (take n xs))) → Appends (length xs * most) old new (joined (flat_map f xs))
+all_put f most xs n e p = rw e at (rw (take_all n xs (omega arith)) at p)
+
+pub whole_text : (n : ℤ) (v : Value) → v ≡ Whole n → (32 ∷ 119 ∷ []) ++ spaced (signed n) ≡ joined (value_words v)
 unfolding joined value_words
 whole_text n v e = rw (e, append-nil)
 
-pub coefficient_text : (f : Float) (v : Value) → v ≡ Coefficient f
-    → (32 ∷ []) ++ ((99 ∷ []) ++ ((32 ∷ []) ++ digits 16 16 (bits_of f))) ≡ joined (value_words v)
+pub coefficient_text : (f : Float) (v : Value) → v ≡ Coefficient f → (32 ∷ 99 ∷ 32 ∷ []) ++ digits 16 16 (bits_of f) ≡ joined (value_words v)
 unfolding joined value_words
 coefficient_text f v e = rw (e, append-nil)
-
-pub newest_text : (x : Last) (l : LogLine) (looked : ℕ) → x ≡ Newest l looked → joined (log_words l ++ (decimal looked ∷ [])) ≡ joined (last_words x)
-unfolding last_words
-newest_text x l looked e = rw e
-
-pub none_held_text : (x : Last) (looked : ℕ) → x ≡ NoneHeld looked → (32 ∷ []) ++ ((45 ∷ []) ++ spaced (decimal looked)) ≡ joined (last_words x)
-unfolding joined last_words
-none_held_text x looked e = rw (e, append-nil)
 
 -- ---- bytes in hexadecimal
 
@@ -109,17 +117,17 @@ hexed_more l i h =
     let more : take (i + 1) l ≡ take i l ++ (get_or l i 0 ∷ []) = rw (add-one i) (take-suc l i 0 h) in
     sym (ap hexed more ∙ hexed_both (take i l) (get_or l i 0 ∷ []) ∙ ap (λ (r : List ℕ). hexed (take i l) ++ r) (append-nil (digits 16 2 (get_or l i 0))))
 
-pub no_byte : (old l : List ℕ) (at : ℕ) → Put 0 old old at at (hexed (take 0 l))
+pub no_byte : (part : List ℕ) (c : Cursor) → Appends 0 c c (hexed (take 0 part))
 unfolding hexed
-no_byte old l at = nothing_put 0 old at
+no_byte part c = nothing_put 0 c
 
 -- one byte more
-pub byte_more : {old mid new : List ℕ} {at next last : ℕ} (l : List ℕ) (i : ℕ) → i < length l → Put (i * 2) old mid at next (hexed (take i l)) → Put 2 mid new next last (digits 16 2 (get_or l i 0))
-    → Put ((i + 1) * 2) old new at last (hexed (take (i + 1) l))
+pub byte_more : {old mid new : Cursor} (l : List ℕ) (i : ℕ) → i < length l → Appends (i * 2) old mid (hexed (take i l)) → Appends 2 mid new (digits 16 2 (get_or l i 0))
+    → Appends ((i + 1) * 2) old new (hexed (take (i + 1) l))
 byte_more l i h p q = retext (hexed_more l i h) (two ((i + 1) * 2) (omega arith) p q)
 
-pub all_bytes : {old new : List ℕ} {at next : ℕ} (l : List ℕ) → Put (length l * 2) old new at next (hexed (take (length l) l)) → Put (length l * 2) old new at next (hexed l)
-all_bytes l p = retext (ap hexed (take_all (length l) l (le_refl (length l)))) p
+pub all_bytes : {old new : Cursor} (l : List ℕ) (i : ℕ) → i ≡ length l → Appends (i * 2) old new (hexed (take i l)) → Appends (length l * 2) old new (hexed l)
+all_bytes l i e p = rw e at (rw (take_all i l (omega arith)) at p)
 
 -- ---- lines
 
@@ -134,28 +142,58 @@ pub room_for : (old : List ℕ) (at : ℕ) (e x : Echo) → at + enough ≤ leng
 unfolding text_for
 room_for old at e x h q = rw (le-ltb (length old) (at + enough) h, q)
 
+pub echo_kept : (old : List ℕ) (at : ℕ) (e : Echo) → length old - at < enough → Put 422 old old at at (text_for old at e)
+echo_kept old at e h = puts.retext (little_room old at e (omega arith)) (puts.nothing_put 422 old at)
+
 -- ---- a message that was read
 
-pub accepted_line : (p : Parsed) (v : Values) → p ≡ Accepted v → (48 ∷ []) ++ (spaced (decimal v.vb) ++ (joined (other_words v) ++ (10 ∷ []))) ≡ parsed_text p
+pub accepted_line : (p : Result Values Unread) (v : Values) → p ≡ Ok v → (48 ∷ []) ++ (joined (decimal v.vb ∷ []) ++ (joined (other_words v) ++ (10 ∷ []))) ≡ parsed_text p
 unfolding parsed_text separated litres_words joined
-accepted_line p v e = rw e (ap (λ (l : List ℕ). 48 ∷ l) (sym (append_assoc (spaced (decimal v.vb)) (joined (other_words v)) (10 ∷ []))))
+accepted_line p v e = rw (e, append-nil (decimal v.vb)) (ap (λ (l : List ℕ). 48 ∷ l) (sym (append_assoc (spaced (decimal v.vb)) (joined (other_words v)) (10 ∷ []))))
 
-pub refused_line : (p : Parsed) (n : ℕ) → p ≡ Refused n → decimal n ++ (10 ∷ []) ≡ parsed_text p
+pub refused_line : (p : Result Values Unread) (r : Unread) (n : ℕ) → p ≡ Err r → n ≡ number_of r → decimal n ++ (10 ∷ []) ≡ parsed_text p
 unfolding parsed_text
-refused_line p n e = rw e
+refused_line p r n e h = rw (e, h)
 
-pub accepted_office : (p : Parsed) (v : Values) → p ≡ Accepted v → decimal v.vb ++ (joined (other_words v) ++ (10 ∷ [])) ≡ office_text p
+pub accepted_office : (p : Result Values Unread) (v : Values) → p ≡ Ok v → decimal v.vb ++ (joined (other_words v) ++ (10 ∷ [])) ≡ office_text p
 unfolding office_text separated litres_words
 accepted_office p v e = rw e (sym (append_assoc (decimal v.vb) (joined (other_words v)) (10 ∷ [])))
 
-pub refused_office : (p : Parsed) (n : ℕ) → p ≡ Refused n → bytes "refused" ++ (spaced (decimal n) ++ (10 ∷ [])) ≡ office_text p
-unfolding office_text separated joined
-refused_office p n e = rw (e, append-nil (decimal n))
+pub refused_office : (p : Result Values Unread) (r : Unread) (n : ℕ) → p ≡ Err r → n ≡ number_of r → bytes "refused" ++ (joined (decimal n ∷ []) ++ (10 ∷ [])) ≡ office_text p
+unfolding office_text separated
+refused_office p r n e h = rw (e, h)
 
-pub little_office : (old : List ℕ) (p : Parsed) → length old < enough → [] ≡ office_for old p
+pub little_office : (old : List ℕ) (p : Result Values Unread) → length old < enough → [] ≡ office_for old p
 unfolding office_for
 little_office old p h = rw (lt-ltb (length old) enough h)
 
-pub office_for_lem : (old : List ℕ) (p : Parsed) → enough ≤ length old → office_text p ≡ office_for old p
+pub office_for_lem : (old : List ℕ) (p : Result Values Unread) → enough ≤ length old → office_text p ≡ office_for old p
 unfolding office_for
 office_for_lem old p h = rw (le-ltb (length old) enough h)
+
+pub office_put : (old new : List ℕ) (next : ℕ) (p : Result Values Unread) → enough ≤ length old → Put 422 old new 0 next (office_text p) → Put 422 old new 0 next (office_for old p)
+office_put old new next p h q = puts.retext (office_for_lem old p h) q
+
+pub office_kept : (old : List ℕ) (p : Result Values Unread) → length old < enough → Put 422 old old 0 0 (office_for old p)
+office_kept old p h = puts.retext (little_office old p h) (puts.nothing_put 422 old 0)
+
+-- ---- digits by the power of ten
+
+places_at : (m k n : ℕ) → k ≤ m → 10 ^ k ≤ n → n < 10 * 10 ^ k → places_up_to m n ≡ suc k
+places_at m zero n h l u = places_stop m n (omega (arith, u))
+places_at zero (suc k) n h l u = absurd (omega arith)
+places_at (suc m) (suc k) n h l u =
+    let p = pow-suc 10 k in
+    places_on m n (omega (arith, p, pow-pos k)) ∙ ap suc (places_at m k (n / 10) (omega arith) (omega (arith, p)) (omega (arith, p)))
+  where
+    pow-pos : (j : ℕ) → 1 ≤ 10 ^ j
+    pow-pos zero = omega arith
+    pow-pos (suc j) = omega (arith, pow-pos j, pow-suc 10 j)
+
+pub places_none : 1 ≡ places 0
+unfolding places
+places_none = sym (places_stop 19 0 (omega arith))
+
+pub places_some : (k n : ℕ) → k < 20 → 10 ^ k ≤ n → n < 10 * 10 ^ k → k + 1 ≡ places n
+unfolding places
+places_some k n h l u = add-one k ∙ sym (places_at 19 k n (omega arith) l u)

@@ -1,6 +1,6 @@
 -- Hexadecimal digits read as bytes, two at a time, and the bytes handed to the reader.
 -- Assumes nothing.
-use Prim.Native.Nat.{ℕ, suc, ◌+◌, ◌-◌, ◌*◌, ◌/◌, ◌%◌, ◌≤◌, ◌<◌, suc-le-suc}
+use Prim.Native.Nat.{ℕ, zero, suc, ◌+◌, ◌-◌, ◌*◌, ◌/◌, ◌%◌, ◌≤◌, ◌<◌, suc-le-suc}
 use native.Mathlib.Nat.{mod-lt}
 use native.Mathlib.Numerals.{add-one}
 use native.Mathlib.Omega.{arith}
@@ -10,13 +10,16 @@ use mathlib.Core.List.{List, [], ◌∷◌, ◌++◌, append_assoc, append-nil}
 use borrow.Author.Tests.{ltb-true, ne_eqb, lt-ltb, le-ltb}
 use lib.Dec.{ltb, eqb}
 use lib.ListN.{length, get_or, take, drop, set, length-drop, take-append-drop, length-append}
+use Rattle.std.specs.Simd.{first_chunks}
+use Rattle.std.proofs.lemmas.List.{get_or-take, get_or-drop}
 use lib.Seq.{take_all, drop-cons, take-suc-set, take_at}
 use Rattle.ground.specs.Below.{all_below}
 use Rattle.ground.proofs.Every.{all_each}
 use Rattle.ground.proofs.Flags.{and_right}
 use Rattle.spelling.specs.Spelling.{bytes, same_b, glyph, digits, digit_of}
 use Rattle.spelling.proofs.Spells.{digit_back}
-use Rattle.reader.specs.declared.Parsed.TheVariants.{Refused}
+use Rattle.std.specs.Prelude.{Err}
+use Rattle.reader.specs.declared.Unread.TheVariants.{NotAMessage}
 use Rattle.commands.specs.declared.Entry.TheVariants as entry
 use Rattle.reader.specs.Reader.{parsed}
 use Rattle.reader.proofs.Compared as reader
@@ -63,6 +66,21 @@ length_unhexed [] = refl
 length_unhexed (a ∷ []) = refl
 length_unhexed (a ∷ b ∷ w) = omega (arith, length_unhexed w)
 
+-- the pairs of digits, each as an array
+pub pair_at : (n i j : ℕ) (w : List ℕ) → i < n → j < 2 → get_or (get_or (first_chunks 2 n w) i []) j 0 ≡ get_or w (2 * i + j) 0
+pair_at zero i j w h k = absurd (omega arith)
+pair_at (suc n) zero j w h k = let e : 2 * 0 + j ≡ j = omega arith in rw e (get_or-take 2 w j 0 k)
+pair_at (suc n) (suc i) j w h k =
+    let e : 2 + (2 * i + j) ≡ 2 * suc i + j = omega arith in
+    pair_at n i j (drop 2 w) (omega arith) k ∙ get_or-drop 2 w (2 * i + j) 0 ∙ ap (λ (m : ℕ). get_or w m 0) e
+
+module _ (w : List ℕ) (n i : ℕ) (p : List (List ℕ)) (e : p ≡ first_chunks 2 n w) (h : i < n) where
+  pub first_of_pair : get_or (get_or p i []) 0 0 ≡ get_or w (2 * i) 0
+  first_of_pair = let z : 2 * i + 0 ≡ 2 * i = omega arith in rw e (pair_at n i 0 w h (omega arith) ∙ ap (λ (m : ℕ). get_or w m 0) z)
+
+  pub second_of_pair : get_or (get_or p i []) 1 0 ≡ get_or w (2 * i + 1) 0
+  second_of_pair = rw e (pair_at n i 1 w h (omega arith))
+
 -- none is put yet
 pub none_put : (w out : List ℕ) → unhexed w ≡ take 0 out ++ unhexed (drop (2 * 0) w)
 none_put w out = refl
@@ -82,7 +100,7 @@ all_put w out old n h e d =
 
 -- ---- the reader
 
-pub too_many : (w : List ℕ) → longest / 2 < length w / 2 → Refused 17 ≡ parsed (unhexed w)
+pub too_many : (w : List ℕ) → longest / 2 < length w / 2 → Err NotAMessage ≡ parsed (unhexed w)
 too_many w h = reader.other_length (unhexed w) (λ e. omega (arith, length_unhexed w))
 
 -- what stands at the front of the buffer

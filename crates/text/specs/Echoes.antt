@@ -1,8 +1,9 @@
 -- What is said, as a line: a number, words with a space before each, and a line feed at the end.
 -- Assumes nothing.
-use Rattle.std.specs.Prelude.{ℕ, zero, suc, ◌+◌, ◌/◌, min, Bool, cond, List, [], ◌∷◌, ◌++◌, ltb, length, replicate, ℤ, pos, nat_abs, Float}
+use Rattle.std.specs.Prelude.{ℕ, zero, suc, ◌+◌, ◌/◌, min, Bool, cond, List, [], ◌∷◌, ◌++◌, ltb, length, replicate, map, Option, Some, None, Result, Ok, Err, ℤ, pos, nat_abs, Float}
 use Prim.Native.Char.{code as byte}
 use Rattle.std.specs.Int.Signed.{lt_z}
+use Rattle.std.specs.List.{flat_map}
 use Rattle.std.specs.Float.Ieee.{is_nan, to_bits}
 use Rattle.std.specs.Float.{binary64}
 use Rattle.books.specs.declared.ArchiveLine.{ArchiveLine}
@@ -14,11 +15,8 @@ use Rattle.state.specs.declared.Moment.{Moment}
 use Rattle.settings.specs.declared.Value.{Value}
 use Rattle.settings.specs.declared.Value.TheVariants.{Whole, Coefficient}
 use Rattle.outputs.specs.declared.Shown.{Shown}
-use Rattle.outputs.specs.declared.Emitted.{Emitted}
-use Rattle.outputs.specs.declared.AllShown.{AllShown}
 use Rattle.commands.specs.declared.Readout.{Readout}
 use Rattle.commands.specs.declared.Last.{Last}
-use Rattle.commands.specs.declared.Last.TheVariants.{Newest, NoneHeld}
 use Rattle.commands.specs.declared.Given.{Given}
 use Rattle.commands.specs.declared.Given.TheVariants as given
 use Rattle.commands.specs.declared.Reply.{Reply}
@@ -27,8 +25,8 @@ use Rattle.commands.specs.declared.Echo.TheVariants as echo
 use Rattle.spelling.specs.Spelling.{bytes, digits}
 use Rattle.message.specs.declared.Values.{Values}
 use Rattle.message.specs.Message.{written}
-use Rattle.reader.specs.declared.Parsed.{Parsed}
-use Rattle.reader.specs.declared.Parsed.TheVariants.{Accepted, Refused}
+use Rattle.reader.specs.declared.Unread.{Unread}
+use Rattle.reader.specs.Reader.{number_of}
 use Rattle.text.specs.Words.{space}
 
 -- ---- numbers
@@ -90,9 +88,12 @@ unfoldable pub log_words : LogLine → List (List ℕ)
 log_words l = decimal l.number ∷ decimal l.time ∷ decimal l.code ∷ []
 
 -- NUMBER TIME CODE LOOKED; or `-` and LOOKED
+unfoldable pub newest_words : Option LogLine → List (List ℕ)
+newest_words (Some l) = log_words l
+newest_words None = bytes "-" ∷ []
+
 unfoldable pub last_words : Last → List (List ℕ)
-last_words (Newest l looked) = log_words l ++ (decimal looked ∷ [])
-last_words (NoneHeld looked) = bytes "-" ∷ decimal looked ∷ []
+last_words x = newest_words x.line ++ (decimal x.looked ∷ [])
 
 -- NUMBER TIME DOOR SETTING, the old value, the new value
 unfoldable pub audit_words : AuditLine → List (List ℕ)
@@ -116,16 +117,16 @@ moment_words m =
     ++ flag_words m.cal m.sup m.cust)))
 
 -- E1 E2 E3 E4
-unfoldable pub emitted_words : Emitted → List (List ℕ)
-emitted_words e = number_words e.one e.two e.three e.four
+unfoldable pub emitted_words : List ℕ → List (List ℕ)
+emitted_words e = map decimal e
 
 -- A W L
 unfoldable pub output_words : Shown → List (List ℕ)
 output_words x = decimal x.account ∷ decimal x.waiting ∷ decimal x.lost ∷ []
 
 -- A1 W1 L1 A2 W2 L2 A3 W3 L3 A4 W4 L4
-unfoldable pub outputs_words : AllShown → List (List ℕ)
-outputs_words all = output_words all.one ++ (output_words all.two ++ (output_words all.three ++ output_words all.four))
+unfoldable pub outputs_words : List Shown → List (List ℕ)
+outputs_words all = flat_map output_words all
 
 -- two digits a byte
 unfoldable pub hexed : List ℕ → List ℕ
@@ -158,14 +159,14 @@ unfoldable pub litres_words : Values → List (List ℕ)
 litres_words v = decimal v.vb ∷ other_words v
 
 -- `0` and the values, or the number of the refusal
-unfoldable pub parsed_text : Parsed → List ℕ
-parsed_text (Accepted v) = separated (bytes "0" ∷ litres_words v) ++ bytes "\n"
-parsed_text (Refused n) = decimal n ++ bytes "\n"
+unfoldable pub parsed_text : Result Values Unread → List ℕ
+parsed_text (Ok v) = separated (bytes "0" ∷ litres_words v) ++ bytes "\n"
+parsed_text (Err e) = decimal (number_of e) ++ bytes "\n"
 
 -- what the office's program prints: "the six values in litres with single spaces and a line feed, or `refused `, the number and a line feed"
-unfoldable pub office_text : Parsed → List ℕ
-office_text (Accepted v) = separated (litres_words v) ++ bytes "\n"
-office_text (Refused n) = separated (bytes "refused" ∷ decimal n ∷ []) ++ bytes "\n"
+unfoldable pub office_text : Result Values Unread → List ℕ
+office_text (Ok v) = separated (litres_words v) ++ bytes "\n"
+office_text (Err e) = separated (bytes "refused" ∷ decimal (number_of e) ∷ []) ++ bytes "\n"
 
 -- ---- lines
 
@@ -203,5 +204,5 @@ enough = 422
 unfoldable pub text_for : List ℕ → ℕ → Echo → List ℕ
 text_for out at e = cond (ltb (length out) (at + enough)) [] (echo_text e)
 
-unfoldable pub office_for : List ℕ → Parsed → List ℕ
+unfoldable pub office_for : List ℕ → Result Values Unread → List ℕ
 office_for out p = cond (ltb (length out) enough) [] (office_text p)

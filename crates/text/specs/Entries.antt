@@ -1,6 +1,6 @@
 -- A line read as an entry. Its first word and how many words it has say which entry; the other words are numbers, readings or a value. Any other line is unknown.
 -- Assumes nothing.
-use Rattle.std.specs.Prelude.{ℕ, Bool, cond, ◌||◌, List, ltb, eqb, length, get_or}
+use Rattle.std.specs.Prelude.{ℕ, Bool, cond, ◌||◌, List, ltb, eqb, length, get_or, Option, Some, None}
 use Prim.Native.Char.{code as byte}
 use Rattle.settings.specs.declared.Value.{Value}
 use Rattle.commands.specs.declared.Brought.{Brought}
@@ -10,19 +10,6 @@ use Rattle.commands.specs.declared.Act.TheVariants.{Begin, Read, Write, Abandon}
 use Rattle.commands.specs.declared.Command.TheVariants.{Cycle, Turn, Clear, Tick, Ask, Call, Commit}
 use Rattle.commands.specs.declared.Entry.{Entry}
 use Rattle.commands.specs.declared.Entry.TheVariants as entry
-use Rattle.text.specs.declared.numbers.Number.{Number}
-use Rattle.text.specs.declared.numbers.Number.TheVariants as number
-use Rattle.text.specs.declared.numbers.Code.{Code}
-use Rattle.text.specs.declared.numbers.Code.TheVariants as code
-use Rattle.text.specs.declared.numbers.Reading.{Reading}
-use Rattle.text.specs.declared.numbers.RawReading.{RawReading}
-use Rattle.text.specs.declared.numbers.RawReading.TheVariants as rawReading
-use Rattle.text.specs.declared.numbers.PressureReading.{PressureReading}
-use Rattle.text.specs.declared.numbers.PressureReading.TheVariants as pressureReading
-use Rattle.text.specs.declared.numbers.ComputedReading.{ComputedReading}
-use Rattle.text.specs.declared.numbers.ComputedReading.TheVariants as computedReading
-use Rattle.text.specs.declared.numbers.Wanted.{Wanted}
-use Rattle.text.specs.declared.numbers.Wanted.TheVariants as wanted
 use Rattle.spelling.specs.Spelling.{bytes, same_b}
 use Rattle.text.specs.Words.{word, no_word}
 use Rattle.text.specs.Echoes.{most_lent}
@@ -71,18 +58,18 @@ with_one w n =
     (cond (same_b w (bytes "tick")) (entry.Put (Tick n))
     (question_with w n)))))
 
-unfoldable pub one_or : List ℕ → Number → Entry
-one_or w number.NotOne = entry.Unknown
-one_or w (number.Is n) = with_one w n
+unfoldable pub one_or : List ℕ → Option ℕ → Entry
+one_or w None = entry.Unknown
+one_or w (Some n) = with_one w n
 
 -- parse HEX; any other word has a number
-unfoldable pub word_or : List ℕ → Number → List ℕ → Entry
+unfoldable pub word_or : List ℕ → Option ℕ → List ℕ → Entry
 word_or w number x = cond (same_b w (bytes "parse")) (parse_asked x) (one_or w number)
 
 -- read DOOR SETTING; open LOCK CODE
-unfoldable pub open_by : ℕ → Code → Entry
-open_by lock code.NotOne = entry.Unknown
-open_by lock (code.Is c) = entry.Put (Turn (Open lock c))
+unfoldable pub open_by : ℕ → Option ℕ → Entry
+open_by lock None = entry.Unknown
+open_by lock (Some c) = entry.Put (Turn (Open lock c))
 
 unfoldable pub with_two : List ℕ → ℕ → ℕ → Entry
 with_two w a b =
@@ -90,27 +77,27 @@ with_two w a b =
     (cond (same_b w (bytes "open")) (open_by a (code_of b))
     entry.Unknown)
 
-unfoldable pub two_or : List ℕ → Number → Number → Entry
-two_or w number.NotOne b = entry.Unknown
-two_or w (number.Is a) number.NotOne = entry.Unknown
-two_or w (number.Is a) (number.Is b) = with_two w a b
+unfoldable pub two_or : List ℕ → Option ℕ → Option ℕ → Entry
+two_or w None b = entry.Unknown
+two_or w (Some a) None = entry.Unknown
+two_or w (Some a) (Some b) = with_two w a b
 
 -- start TIME CODE2 CODE3
-unfoldable pub start_by : ℕ → Code → Code → Entry
-start_by time code.NotOne b = entry.Unknown
-start_by time (code.Is a) code.NotOne = entry.Unknown
-start_by time (code.Is a) (code.Is b) = entry.Start time a b
+unfoldable pub start_by : ℕ → Option ℕ → Option ℕ → Entry
+start_by time None b = entry.Unknown
+start_by time (Some a) None = entry.Unknown
+start_by time (Some a) (Some b) = entry.Start time a b
 
 unfoldable pub with_three : List ℕ → ℕ → ℕ → ℕ → Entry
 with_three w a b c =
     cond (same_b w (bytes "start")) (start_by a (code_of b) (code_of c))
     entry.Unknown
 
-unfoldable pub three_or : List ℕ → Number → Number → Number → Entry
-three_or w number.NotOne b c = entry.Unknown
-three_or w (number.Is a) number.NotOne c = entry.Unknown
-three_or w (number.Is a) (number.Is b) number.NotOne = entry.Unknown
-three_or w (number.Is a) (number.Is b) (number.Is c) = with_three w a b c
+unfoldable pub three_or : List ℕ → Option ℕ → Option ℕ → Option ℕ → Entry
+three_or w None b c = entry.Unknown
+three_or w (Some a) None c = entry.Unknown
+three_or w (Some a) (Some b) None = entry.Unknown
+three_or w (Some a) (Some b) (Some c) = with_three w a b c
 
 -- ---- two numbers and a value; two numbers and three readings
 
@@ -120,11 +107,11 @@ with_value w a b v =
     cond (same_b w (bytes "write")) (entry.Put (Call a (Write b v)))
     entry.Unknown
 
-unfoldable pub value_or : List ℕ → Number → Number → Wanted → Entry
-value_or w number.NotOne b v = entry.Unknown
-value_or w (number.Is a) number.NotOne v = entry.Unknown
-value_or w (number.Is a) (number.Is b) wanted.NotOne = entry.Unknown
-value_or w (number.Is a) (number.Is b) (wanted.Is v) = with_value w a b v
+unfoldable pub value_or : List ℕ → Option ℕ → Option ℕ → Option Value → Entry
+value_or w None b v = entry.Unknown
+value_or w (Some a) None v = entry.Unknown
+value_or w (Some a) (Some b) None = entry.Unknown
+value_or w (Some a) (Some b) (Some v) = with_value w a b v
 
 -- cycle TIME N RAW P K
 unfoldable pub with_readings : List ℕ → Brought → Entry
@@ -132,22 +119,22 @@ with_readings w brought =
     cond (same_b w (bytes "cycle")) (entry.Put (Cycle brought))
     entry.Unknown
 
-unfoldable pub readings_or : List ℕ → Number → Number → RawReading → PressureReading → ComputedReading → Entry
-readings_or w number.NotOne n r p k = entry.Unknown
-readings_or w (number.Is t) number.NotOne r p k = entry.Unknown
-readings_or w (number.Is t) (number.Is n) rawReading.NotOne p k = entry.Unknown
-readings_or w (number.Is t) (number.Is n) (rawReading.Is r) pressureReading.NotOne k = entry.Unknown
-readings_or w (number.Is t) (number.Is n) (rawReading.Is r) (pressureReading.Is p) computedReading.NotOne = entry.Unknown
-readings_or w (number.Is t) (number.Is n) (rawReading.Is r) (pressureReading.Is p) (computedReading.Is k) =
+unfoldable pub readings_or : List ℕ → Option ℕ → Option ℕ → Option (Option ℕ) → Option (Option ℕ) → Option (Option ℕ) → Entry
+readings_or w None n r p k = entry.Unknown
+readings_or w (Some t) None r p k = entry.Unknown
+readings_or w (Some t) (Some n) None p k = entry.Unknown
+readings_or w (Some t) (Some n) (Some r) None k = entry.Unknown
+readings_or w (Some t) (Some n) (Some r) (Some p) None = entry.Unknown
+readings_or w (Some t) (Some n) (Some r) (Some p) (Some k) =
     with_readings w (record { time = t; n = n; raw = r; pressure = p; k = k })
 
 -- ---- the line
 
 -- word k as a decimal number, and as a reading
-abbrev pub number_at : List ℕ → ℕ → Number
+abbrev pub number_at : List ℕ → ℕ → Option ℕ
 number_at line k = number_in 10 (word line k)
 
-abbrev pub reading_at : List ℕ → ℕ → Reading
+abbrev pub reading_at : List ℕ → ℕ → Option (Option ℕ)
 reading_at line k = reading_of (word line k)
 
 -- by the number of its words: one to six

@@ -1,12 +1,19 @@
-// What is said, written as a line. Each function puts its text at a place of `out` and answers the place after it.
-ghost use Rattle.std.specs.Prelude.{◌≡◌, [], ◌∷◌, ◌+◌, ◌*◌, ◌≤◌, ◌<◌, min, length, replicate, nat_abs};
+// What is said, written as a line at the place of a cursor.
+ghost use Rattle.std.specs.Prelude.{◌≡◌, [], ◌∷◌, ◌+◌, ◌*◌, ◌≤◌, ◌<◌, min, length, map, ℕ, List};
+ghost use Rattle.std.specs.List.{flat_map};
 ghost use Rattle.spelling.specs.Spelling.{Put, digits};
-ghost use Rattle.text.specs.Echoes.{places, decimal, spaced, flag, signed, bits_of, value_words, joined, flag_words, number_words, archive_words, log_words, audit_words, counter_words, lamp_words, moment_words, emitted_words, output_words, outputs_words, hexed, unwritten, most_lent, readout_words, last_words, other_words, parsed_text, office_text, office_for, given_words, said_text, unknown_text, text_for};
+ghost use Rattle.spelling.specs.Cursor.{HasRoom, Appends};
+ghost use Rattle.text.specs.Echoes.{places, decimal, spaced, flag, signed, bits_of, value_words, joined, archive_words, log_words, audit_words, lamp_words, moment_words, output_words, hexed, most_lent, readout_words, newest_words, last_words, other_words, parsed_text, office_text, office_for, given_words, said_text, echo_text, text_for};
 
 use crate::words::LINE_FEED;
+use books::{ArchiveLine, AuditLine, LogLine};
 use commands::{Echo, Given, Last, Readout, Reply};
 use message::Values;
-use reader::Parsed;
+use outputs::Shown;
+use reader::Unread;
+use settings::Value;
+use spelling::cursor::Cursor;
+use state::Moment;
 
 // Room for any line. The longest tells of a readout: a number of at most 20 digits, a space, and two digits for each byte of the longest buffer that is lent.
 pub const ROOM: usize = 422;
@@ -17,59 +24,88 @@ const UNWRITTEN: u8 = 0xaa;
 
 pub const MOST_LENT: usize = 200;
 
-#[tactic(auto, using(spelling::proofs::Puts::byte))]
-fn put_byte(out: &mut [u8], at: usize, b: u8) -> usize
-    requires { at < length out.old }
-    ensures { Put 1 out.old out.new at result (b ∷ []) }
+// ---- what is put at the place of a cursor that has the room
+
+// Stays: these three stand here and in message. A method that another crate calls asks nothing of its caller; here the room is known.
+fn put_byte(cursor: &mut Cursor<'_>, b: u8)
+    requires { HasRoom 1 cursor.old }
+    ensures { Appends 1 cursor.old cursor.new (b ∷ []) }
 {
-    out[at] = b;
-    at + 1
+    cursor.put_byte(b);
 }
 
+fn put_text(cursor: &mut Cursor<'_>, text: &[u8])
+    requires { HasRoom (length text.now) cursor.old }
+    ensures { Appends (length text.now) cursor.old cursor.new text.now }
+{
+    cursor.put_text(text);
+}
+
+fn put_digits(cursor: &mut Cursor<'_>, base: u64, k: usize, n: u64)
+    requires { HasRoom k cursor.old × (1 < base) × (base ≤ 16) }
+    ensures { Appends k cursor.old cursor.new (digits base k n) }
+{
+    cursor.put_digits(base, k, n);
+}
+
+// ---- numbers
+
 // How many decimal digits a number has.
-#[tactic(auto, using(crate::proofs::Puts::places_stop), unfolding(crate::specs::Echoes::places))]
+#[tactic(auto, using(crate::proofs::Puts::places_none, crate::proofs::Puts::places_some))]
 fn places_of(n: u64) -> usize
     ensures { result ≡ places n }
 {
-    let mut rest = n;
-    let mut k = 1;
-    while k < 20 {
-        if rest < 10 {
-            return k;
-        }
-        rest = rest / 10;
-        k += 1;
-    }
-    k
+    n.checked_ilog10().unwrap_or(0) as usize + 1
 }
 
-// Puts the last k digits of a number.
-fn put_digits(out: &mut [u8], at: usize, base: u64, k: usize, n: u64) -> usize
-    requires { (at + k ≤ length out.old) × ((1 < base) × (base ≤ 16)) }
-    ensures { Put k out.old out.new at result (digits base k n) }
+#[tactic(auto, using(spelling::proofs::Appended::looser, crate::proofs::Puts::places_most), unfolding(crate::specs::Echoes::decimal))]
+fn put_decimal(cursor: &mut Cursor<'_>, n: u64)
+    requires { HasRoom 20 cursor.old }
+    ensures { Appends 20 cursor.old cursor.new (decimal n) }
 {
-    let next = at + k;
-    spelling::digits_into(&mut out[at..next], base, n);
-    next
+    put_digits(cursor, 10, places_of(n), n);
 }
 
-#[tactic(auto, using(spelling::proofs::Puts::looser, crate::proofs::Puts::places_most), unfolding(crate::specs::Echoes::decimal))]
-fn put_decimal(out: &mut [u8], at: usize, n: u64) -> usize
-    requires { at + 20 ≤ length out.old }
-    ensures { Put 20 out.old out.new at result (decimal n) }
+// 0 for a NaN, which no setting ever is.
+#[tactic(auto, unfolding(crate::specs::Echoes::bits_of))]
+fn bits_of(f: f64) -> u64
+    ensures { result ≡ bits_of f }
 {
-    let k = places_of(n);
-    put_digits(out, at, 10, k, n)
+    if f.is_nan() { 0 } else { f.to_bits() }
 }
 
 // ---- words, each after a space
 
-fn put_number(out: &mut [u8], at: usize, n: u64) -> usize
-    requires { at + 21 ≤ length out.old }
-    ensures { Put 21 out.old out.new at result (spaced (decimal n)) }
-{
-    let next = put_byte(out, at, b' ');
-    put_decimal(out, next, n)
+// What is said in words: which, and the most bytes that they and their spaces have.
+trait Words: Copy {
+    ghost words: { Self → List (List ℕ) };
+
+    ghost most: { ℕ };
+
+    fn put(self, cursor: &mut Cursor<'_>)
+        requires { HasRoom most cursor.old }
+        ensures { Appends most cursor.old cursor.new (joined (words self)) };
+}
+
+impl Words for u64 {
+    ghost words = { λ n. decimal n ∷ [] };
+
+    ghost most = { 21 };
+
+    fn put(self, cursor: &mut Cursor<'_>) {
+        put_byte(cursor, b' ');
+        put_decimal(cursor, self);
+    }
+}
+
+impl Words for u16 {
+    ghost words = { λ n. decimal n ∷ [] };
+
+    ghost most = { 21 };
+
+    fn put(self, cursor: &mut Cursor<'_>) {
+        u64::from(self).put(cursor);
+    }
 }
 
 #[tactic(auto, unfolding(crate::specs::Echoes::flag))]
@@ -79,394 +115,299 @@ fn flag_of(on: bool) -> u8
     if on { b'1' } else { b'0' }
 }
 
-#[tactic(auto, using(spelling::proofs::Puts::two))]
-fn put_flag(out: &mut [u8], at: usize, on: bool) -> usize
-    requires { at + 2 ≤ length out.old }
-    ensures { Put 2 out.old out.new at result (spaced (flag on ∷ [])) }
-{
-    let next = put_byte(out, at, b' ');
-    let b = flag_of(on);
-    put_byte(out, next, b)
+impl Words for bool {
+    ghost words = { λ on. (flag on ∷ []) ∷ [] };
+
+    ghost most = { 2 };
+
+    fn put(self, cursor: &mut Cursor<'_>) {
+        put_byte(cursor, b' ');
+        put_byte(cursor, flag_of(self));
+    }
 }
 
-// A whole number without its sign.
-#[tactic(auto, using(crate::proofs::Below::size_subtracts, crate::proofs::Below::size_casts, crate::proofs::Below::size_fits, crate::proofs::Below::size_is, crate::proofs::Below::size_casts_as_it_is))]
-fn magnitude(n: i64) -> u64
-    ensures { result ≡ nat_abs n }
+fn put_all<W: Words>(cursor: &mut Cursor<'_>, items: &[W])
+    requires { HasRoom (length items.now * W.most) cursor.old }
+    ensures { Appends (length items.now * W.most) cursor.old cursor.new (joined (flat_map W.words items.now)) }
 {
+    for &item in items {
+        item.put(cursor);
+    }
+}
+
+fn put_signed(cursor: &mut Cursor<'_>, n: i64)
+    requires { HasRoom 22 cursor.old }
+    ensures { Appends 22 cursor.old cursor.new (spaced (signed n)) }
+{
+    put_byte(cursor, b' ');
     if n < 0 {
-        return (-1 - n) as u64 + 1;
+        put_byte(cursor, b'-');
     }
-    n as u64
+    put_decimal(cursor, n.unsigned_abs());
 }
 
-#[tactic(auto, using(spelling::proofs::Puts::looser, spelling::proofs::Puts::retext, crate::proofs::Puts::places_most, crate::proofs::Puts::not_below))]
-fn put_signed(out: &mut [u8], at: usize, n: i64) -> usize
-    requires { at + 22 ≤ length out.old }
-    ensures { Put 22 out.old out.new at result (spaced (signed n)) }
-{
-    let negative = ground::less(n, 0);
-    let size = magnitude(n);
-    if negative {
-        let next = put_byte(out, at, b' ');
-        let third = put_byte(out, next, b'-');
-        let k = places_of(size);
-        return put_digits(out, third, 10, k, size);
-    }
-    put_number(out, at, size)
-}
+impl Words for Value {
+    ghost words = { value_words };
 
-// 0 for a NaN, which no setting ever is.
-#[tactic(auto, using(crate::proofs::Floats::same_as_itself, crate::proofs::Floats::itself_not), unfolding(crate::specs::Echoes::bits_of))]
-fn bits_of(f: f64) -> u64
-    ensures { result ≡ bits_of f }
-{
-    if f == f {
-        return f64::to_bits(f);
-    }
-    0
-}
+    ghost most = { 24 };
 
-fn put_value(out: &mut [u8], at: usize, v: settings::Value) -> usize
-    requires { at + 24 ≤ length out.old }
-    ensures { Put 24 out.old out.new at result (joined (value_words v)) }
-{
-    let next = put_byte(out, at, b' ');
-    match v {
-        settings::Value::Whole(n) => {
-            let third = put_byte(out, next, b'w');
-            put_signed(out, third, n)
-        }
-        settings::Value::Coefficient(f) => {
-            let third = put_byte(out, next, b'c');
-            let fourth = put_byte(out, third, b' ');
-            let bits = bits_of(f);
-            put_digits(out, fourth, 16, 16, bits)
+    fn put(self, cursor: &mut Cursor<'_>) {
+        match self {
+            Value::Whole(n) => {
+                put_text(cursor, b" w");
+                put_signed(cursor, n);
+            }
+            Value::Coefficient(f) => {
+                put_text(cursor, b" c ");
+                put_digits(cursor, 16, 16, bits_of(f));
+            }
         }
     }
 }
 
-fn put_three(out: &mut [u8], at: usize, a: bool, b: bool, c: bool) -> usize
-    requires { at + 6 ≤ length out.old }
-    ensures { Put 6 out.old out.new at result (joined (flag_words a b c)) }
-{
-    let second = put_flag(out, at, a);
-    let third = put_flag(out, second, b);
-    put_flag(out, third, c)
-}
+impl Words for Shown {
+    ghost words = { output_words };
 
-fn put_four(out: &mut [u8], at: usize, a: u64, b: u64, c: u64, d: u64) -> usize
-    requires { at + 84 ≤ length out.old }
-    ensures { Put 84 out.old out.new at result (joined (number_words a b c d)) }
-{
-    let second = put_number(out, at, a);
-    let third = put_number(out, second, b);
-    let fourth = put_number(out, third, c);
-    put_number(out, fourth, d)
+    ghost most = { 63 };
+
+    fn put(self, cursor: &mut Cursor<'_>) {
+        put_all(
+            cursor,
+            &[self.account, self.waiting as u64, self.lost as u64],
+        );
+    }
 }
 
 // ---- the words of each kind of line
 
-fn put_archive(out: &mut [u8], at: usize, l: books::ArchiveLine) -> usize
-    requires { at + 105 ≤ length out.old }
-    ensures { Put 105 out.old out.new at result (joined (archive_words l)) }
-{
-    let vm = l.vm;
-    let vmd = l.vmd;
-    let vb = l.vb;
-    let vbd = l.vbd;
-    let next = put_number(out, at, l.month);
-    put_four(out, next, vm.0, vmd.0, vb.0, vbd.0)
+impl Words for ArchiveLine {
+    ghost words = { archive_words };
+
+    ghost most = { 105 };
+
+    fn put(self, cursor: &mut Cursor<'_>) {
+        put_all(
+            cursor,
+            &[self.month, self.vm.0, self.vmd.0, self.vb.0, self.vbd.0],
+        );
+    }
 }
 
-fn put_log(out: &mut [u8], at: usize, l: books::LogLine) -> usize
-    requires { at + 63 ≤ length out.old }
-    ensures { Put 63 out.old out.new at result (joined (log_words l)) }
-{
-    let second = put_number(out, at, l.number as u64);
-    let third = put_number(out, second, l.time);
-    put_number(out, third, l.code)
+impl Words for LogLine {
+    ghost words = { log_words };
+
+    ghost most = { 63 };
+
+    fn put(self, cursor: &mut Cursor<'_>) {
+        put_all(cursor, &[self.number as u64, self.time, self.code]);
+    }
 }
 
-fn put_audit(out: &mut [u8], at: usize, l: books::AuditLine) -> usize
-    requires { at + 132 ≤ length out.old }
-    ensures { Put 132 out.old out.new at result (joined (audit_words l)) }
-{
-    let old = l.old;
-    let new = l.new;
-    let next = put_four(out, at, l.number as u64, l.time, l.door, l.setting);
-    let last = put_value(out, next, old);
-    put_value(out, last, new)
+impl Words for AuditLine {
+    ghost words = { audit_words };
+
+    ghost most = { 132 };
+
+    fn put(self, cursor: &mut Cursor<'_>) {
+        put_all(
+            cursor,
+            &[self.number as u64, self.time, self.door, self.setting],
+        );
+        self.old.put(cursor);
+        self.new.put(cursor);
+    }
 }
 
-#[tactic(auto, unfolding(crate::specs::Echoes::counter_words))]
-fn put_counts(out: &mut [u8], at: usize, c: state::Counters) -> usize
-    requires { at + 84 ≤ length out.old }
-    ensures { Put 84 out.old out.new at result (joined (counter_words c)) }
-{
-    let vm = c.vm;
-    let vmd = c.vmd;
-    let vb = c.vb;
-    let vbd = c.vbd;
-    put_four(out, at, vm.0, vmd.0, vb.0, vbd.0)
-}
+impl Words for Moment {
+    ghost words = { moment_words };
 
-fn put_lamps(out: &mut [u8], at: usize, alarms: state::Alarms, latches: state::Alarms) -> usize
-    requires { at + 12 ≤ length out.old }
-    ensures { Put 12 out.old out.new at result (joined (lamp_words alarms latches)) }
-{
-    let next = put_three(out, at, alarms.p, alarms.t, alarms.k);
-    put_three(out, next, latches.p, latches.t, latches.k)
-}
+    ghost most = { 165 };
 
-fn put_moment(out: &mut [u8], at: usize, m: state::Moment) -> usize
-    requires { at + 165 ≤ length out.old }
-    ensures { Put 165 out.old out.new at result (joined (moment_words m)) }
-{
-    let counters = m.counters;
-    let vmt = counters.vmt;
-    let vbt = counters.vbt;
-    let alarms = m.alarms;
-    let latches = m.latches;
-    let second = put_number(out, at, m.time);
-    let third = put_counts(out, second, counters);
-    let fourth = put_number(out, third, vmt.0);
-    let fifth = put_number(out, fourth, vbt.0);
-    let sixth = put_lamps(out, fifth, alarms, latches);
-    put_three(out, sixth, m.cal, m.sup, m.cust)
-}
-
-#[tactic(auto, unfolding(crate::specs::Echoes::emitted_words))]
-fn put_emitted(out: &mut [u8], at: usize, e: outputs::Emitted) -> usize
-    requires { at + 84 ≤ length out.old }
-    ensures { Put 84 out.old out.new at result (joined (emitted_words e)) }
-{
-    put_four(
-        out,
-        at,
-        e.one as u64,
-        e.two as u64,
-        e.three as u64,
-        e.four as u64,
-    )
-}
-
-fn put_output(out: &mut [u8], at: usize, x: outputs::Shown) -> usize
-    requires { at + 63 ≤ length out.old }
-    ensures { Put 63 out.old out.new at result (joined (output_words x)) }
-{
-    let second = put_number(out, at, x.account);
-    let third = put_number(out, second, x.waiting as u64);
-    put_number(out, third, x.lost as u64)
-}
-
-fn put_outputs(out: &mut [u8], at: usize, all: outputs::AllShown) -> usize
-    requires { at + 252 ≤ length out.old }
-    ensures { Put 252 out.old out.new at result (joined (outputs_words all)) }
-{
-    let one = all.one;
-    let two = all.two;
-    let three = all.three;
-    let four = all.four;
-    let second = put_output(out, at, one);
-    let third = put_output(out, second, two);
-    let fourth = put_output(out, third, three);
-    put_output(out, fourth, four)
-}
-
-fn put_pair(out: &mut [u8], at: usize, b: u8) -> usize
-    requires { at + 2 ≤ length out.old }
-    ensures { Put 2 out.old out.new at result (digits 16 2 b) }
-{
-    put_digits(out, at, 16, 2, b as u64)
+    fn put(self, cursor: &mut Cursor<'_>) {
+        let counted = self.counters;
+        put_all(
+            cursor,
+            &[
+                self.time,
+                counted.vm.0,
+                counted.vmd.0,
+                counted.vb.0,
+                counted.vbd.0,
+                counted.vmt.0,
+                counted.vbt.0,
+            ],
+        );
+        let alarms = self.alarms;
+        let latches = self.latches;
+        put_all(
+            cursor,
+            &[
+                alarms.p, alarms.t, alarms.k, latches.p, latches.t, latches.k, self.cal, self.sup,
+                self.cust,
+            ],
+        );
+    }
 }
 
 // Two digits a byte.
-#[tactic(auto, using(crate::proofs::Puts::all_bytes))]
-fn put_hex(out: &mut [u8], at: usize, part: &[u8]) -> usize
-    requires { at + length part.now * 2 ≤ length out.old }
-    ensures { Put (length part.now * 2) out.old out.new at result (hexed part.now) }
+fn put_hex(cursor: &mut Cursor<'_>, part: &[u8])
+    requires { HasRoom (length part.now * 2) cursor.old }
+    ensures { Appends (length part.now * 2) cursor.old cursor.new (hexed part.now) }
 {
-    let mut next = at;
-    let mut i: usize = 0;
-    while i < part.len() {
-        let b = part[i];
-        next = put_pair(out, next, b);
-        i += 1;
-    }
-    next
-}
-
-fn lent_by(room: u64) -> usize
-    ensures { result ≡ min room most_lent }
-{
-    if room < MOST_LENT as u64 {
-        room as usize
-    } else {
-        MOST_LENT
+    for &b in part {
+        put_digits(cursor, 16, 2, b as u64);
     }
 }
 
-fn lent_buffer() -> [u8; MOST_LENT]
-    ensures { result ≡ replicate most_lent unwritten }
-{
-    [UNWRITTEN; MOST_LENT]
+// The whole buffer that is lent, with the message in it.
+impl Words for Readout {
+    ghost words = { readout_words };
+
+    ghost most = { 401 };
+
+    fn put(self, cursor: &mut Cursor<'_>) {
+        let mut buffer = [UNWRITTEN; MOST_LENT];
+        let n = self.room.min(MOST_LENT as u64) as usize;
+        message::write(self.values, &mut buffer[..n]);
+        put_byte(cursor, b' ');
+        put_hex(cursor, &buffer[..n]);
+    }
 }
 
-// The whole buffer, with the message in it.
-#[tactic(auto, using(crate::proofs::Lent::few, crate::proofs::Lent::front_length, crate::proofs::Lent::within))]
-fn put_readout(out: &mut [u8], at: usize, x: Readout) -> usize
-    requires { at + 401 ≤ length out.old }
-    ensures { Put 401 out.old out.new at result (joined (readout_words x)) }
-{
-    let mut buffer = lent_buffer();
-    let n = lent_by(x.room);
-    let values = x.values;
-    message::write(values, &mut buffer[..n]);
-    let next = put_byte(out, at, b' ');
-    put_hex(out, next, &buffer[..n])
-}
+// A line, or `-`.
+impl Words for Option<LogLine> {
+    ghost words = { newest_words };
 
-// The newest line with a code, or `-`; then how many lines were looked at.
-fn put_last(out: &mut [u8], at: usize, x: Last) -> usize
-    requires { at + 84 ≤ length out.old }
-    ensures { Put 84 out.old out.new at result (joined (last_words x)) }
-{
-    match x {
-        Last::Newest(l, looked) => {
-            let next = put_log(out, at, l);
-            put_number(out, next, looked)
+    ghost most = { 63 };
+
+    fn put(self, cursor: &mut Cursor<'_>) {
+        match self {
+            Some(l) => l.put(cursor),
+            None => put_text(cursor, b" -"),
         }
-        Last::NoneHeld(looked) => {
-            let next = put_byte(out, at, b' ');
-            let third = put_byte(out, next, b'-');
-            put_number(out, third, looked)
+    }
+}
+
+impl Words for Last {
+    ghost words = { last_words };
+
+    ghost most = { 84 };
+
+    fn put(self, cursor: &mut Cursor<'_>) {
+        self.line.put(cursor);
+        self.looked.put(cursor);
+    }
+}
+
+impl Words for Given {
+    ghost words = { given_words };
+
+    ghost most = { 401 };
+
+    #[tactic(auto, using(spelling::proofs::Appended::looser, spelling::proofs::Appended::retext, crate::proofs::Puts::given_text, crate::proofs::Puts::none_put), unfolding(crate::specs::Echoes::given_words, crate::specs::Echoes::emitted_words, crate::specs::Echoes::outputs_words))]
+    fn put(self, cursor: &mut Cursor<'_>) {
+        match self {
+            Given::Nothing => {}
+            Given::Value(v) => v.put(cursor),
+            Given::Report(m) => m.put(cursor),
+            Given::Emitted(all) => put_all(cursor, &all),
+            Given::Outputs(all) => put_all(cursor, &all),
+            Given::Readout(x) => x.put(cursor),
+            Given::Archive(l) => l.put(cursor),
+            Given::Log(l) => l.put(cursor),
+            Given::Audit(l) => l.put(cursor),
+            Given::Last(x) => x.put(cursor),
         }
     }
 }
 
 // ---- a message that was read
 
-fn put_text(out: &mut [u8], at: usize, text: &[u8]) -> usize
-    requires { at + length text.now ≤ length out.old }
-    ensures { Put (length text.now) out.old out.new at result text.now }
-{
-    let next = at + text.len();
-    spelling::text_into(&mut out[at..next], text);
-    next
-}
-
 // The values behind the first.
-fn put_others(out: &mut [u8], at: usize, v: Values) -> usize
-    requires { at + 105 ≤ length out.old }
-    ensures { Put 105 out.old out.new at result (joined (other_words v)) }
+fn put_others(cursor: &mut Cursor<'_>, v: Values)
+    requires { HasRoom 105 cursor.old }
+    ensures { Appends 105 cursor.old cursor.new (joined (other_words v)) }
 {
-    let next = put_four(out, at, v.vbd, v.vbt, v.vm, v.vmd);
-    put_number(out, next, v.vmt)
+    put_all(cursor, &[v.vbd, v.vbt, v.vm, v.vmd, v.vmt]);
 }
 
-fn parsed_line(out: &mut [u8], at: usize, p: Parsed) -> usize
-    requires { at + 422 ≤ length out.old }
-    ensures { Put 422 out.old out.new at result (parsed_text p) }
+fn parsed_line(cursor: &mut Cursor<'_>, parsed: Result<Values, Unread>)
+    requires { HasRoom 422 cursor.old }
+    ensures { Appends 422 cursor.old cursor.new (parsed_text parsed) }
 {
-    match p {
-        Parsed::Accepted(v) => {
-            let next = put_byte(out, at, b'0');
-            let others = put_number(out, next, v.vb);
-            let last = put_others(out, others, v);
-            put_byte(out, last, LINE_FEED)
+    match parsed {
+        Ok(v) => {
+            put_byte(cursor, b'0');
+            v.vb.put(cursor);
+            put_others(cursor, v);
         }
-        Parsed::Refused(n) => {
-            let next = put_decimal(out, at, n);
-            put_byte(out, next, LINE_FEED)
-        }
+        Err(unread) => put_decimal(cursor, unread.number()),
     }
+    put_byte(cursor, LINE_FEED);
 }
 
-fn office_text(out: &mut [u8], p: Parsed) -> usize
-    requires { 422 ≤ length out.old }
-    ensures { Put 422 out.old out.new 0 result (office_text p) }
+fn office_text(cursor: &mut Cursor<'_>, parsed: Result<Values, Unread>)
+    requires { HasRoom 422 cursor.old }
+    ensures { Appends 422 cursor.old cursor.new (office_text parsed) }
 {
-    match p {
-        Parsed::Accepted(v) => {
-            let others = put_decimal(out, 0, v.vb);
-            let last = put_others(out, others, v);
-            put_byte(out, last, LINE_FEED)
+    match parsed {
+        Ok(v) => {
+            put_decimal(cursor, v.vb);
+            put_others(cursor, v);
         }
-        Parsed::Refused(n) => {
-            let next = put_text(out, 0, b"refused");
-            let last = put_number(out, next, n);
-            put_byte(out, last, LINE_FEED)
+        Err(unread) => {
+            put_text(cursor, b"refused");
+            unread.number().put(cursor);
         }
     }
+    put_byte(cursor, LINE_FEED);
 }
 
 // What the office's program prints, at the front. Puts nothing if there is less than ROOM.
-#[tactic(auto, using(spelling::proofs::Puts::retext, spelling::proofs::Puts::nothing_put, crate::proofs::Puts::little_office, crate::proofs::Puts::office_for_lem))]
-pub fn office_line(out: &mut [u8], p: Parsed) -> usize
-    ensures { Put 422 out.old out.new 0 result (office_for out.old p) }
+#[tactic(auto, using(crate::proofs::Puts::office_put, crate::proofs::Puts::office_kept))]
+pub fn office_line(out: &mut [u8], parsed: Result<Values, Unread>) -> usize
+    ensures { Put 422 out.old out.new 0 result (office_for out.old parsed) }
 {
     if out.len() < ROOM {
         return 0;
     }
-    office_text(out, p)
+    let mut cursor = Cursor { out, at: 0 };
+    office_text(&mut cursor, parsed);
+    cursor.at
 }
 
 // ---- lines
 
-#[tactic(auto, using(spelling::proofs::Puts::looser, spelling::proofs::Puts::retext, spelling::proofs::Puts::nothing_put, crate::proofs::Puts::given_text), unfolding(crate::specs::Echoes::given_words, crate::specs::Echoes::joined))]
-fn put_given(out: &mut [u8], at: usize, g: Given) -> usize
-    requires { at + 401 ≤ length out.old }
-    ensures { Put 401 out.old out.new at result (joined (given_words g)) }
+fn said_line(cursor: &mut Cursor<'_>, reply: Reply)
+    requires { HasRoom 422 cursor.old }
+    ensures { Appends 422 cursor.old cursor.new (said_text reply) }
 {
-    match g {
-        Given::Nothing => at,
-        Given::Value(v) => put_value(out, at, v),
-        Given::Report(m) => put_moment(out, at, m),
-        Given::Emitted(e) => put_emitted(out, at, e),
-        Given::Outputs(all) => put_outputs(out, at, all),
-        Given::Readout(x) => put_readout(out, at, x),
-        Given::Archive(l) => put_archive(out, at, l),
-        Given::Log(l) => put_log(out, at, l),
-        Given::Audit(l) => put_audit(out, at, l),
-        Given::Last(x) => put_last(out, at, x),
+    put_decimal(cursor, reply.number);
+    reply.given.put(cursor);
+    put_byte(cursor, LINE_FEED);
+}
+
+fn put_echo(cursor: &mut Cursor<'_>, echo: Echo)
+    requires { HasRoom 422 cursor.old }
+    ensures { Appends 422 cursor.old cursor.new (echo_text echo) }
+{
+    match echo {
+        Echo::Nothing => {}
+        Echo::Unknown => put_text(cursor, b"?\n"),
+        Echo::Said(reply) => said_line(cursor, reply),
+        Echo::Parse(parsed) => parsed_line(cursor, parsed),
     }
-}
-
-fn said_line(out: &mut [u8], at: usize, reply: Reply) -> usize
-    requires { at + 422 ≤ length out.old }
-    ensures { Put 422 out.old out.new at result (said_text reply) }
-{
-    let n = reply.number;
-    let given = reply.given;
-    let next = put_decimal(out, at, n);
-    let last = put_given(out, next, given);
-    put_byte(out, last, LINE_FEED)
-}
-
-#[tactic(auto, using(spelling::proofs::Puts::two), unfolding(crate::specs::Echoes::unknown_text))]
-fn unknown_line(out: &mut [u8], at: usize) -> usize
-    requires { at + 422 ≤ length out.old }
-    ensures { Put 422 out.old out.new at result unknown_text }
-{
-    let next = put_byte(out, at, b'?');
-    put_byte(out, next, LINE_FEED)
 }
 
 // Puts nothing if there is less than ROOM left.
+#[tactic(auto, using(crate::proofs::Puts::echo_kept), unfolding(crate::specs::Echoes::text_for))]
 pub fn echo_line(out: &mut [u8], at: usize, echo: Echo) -> usize
     ensures { Put 422 out.old out.new at result (text_for out.old at echo) }
 {
-    if out.len() < at {
+    if out.len().saturating_sub(at) < ROOM {
         return at;
     }
-    if out.len() - at < ROOM {
-        return at;
-    }
-    match echo {
-        Echo::Nothing => at,
-        Echo::Unknown => unknown_line(out, at),
-        Echo::Said(reply) => said_line(out, at, reply),
-        Echo::Parse(p) => parsed_line(out, at, p),
-    }
+    let mut cursor = Cursor { out, at };
+    put_echo(&mut cursor, echo);
+    cursor.at
 }

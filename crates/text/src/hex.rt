@@ -1,15 +1,15 @@
 // A word of hexadecimal digits, two a byte: the bytes are handed to the reader of messages.
-ghost use Rattle.std.specs.Prelude.{◌≡◌, true, ◌++◌, ◌+◌, ◌*◌, ◌/◌, ◌≤◌, ◌<◌, length, drop, replicate};
+ghost use Rattle.std.specs.Prelude.{◌≡◌, true, ◌++◌, ◌+◌, ◌*◌, ◌/◌, ◌≤◌, ◌<◌, length, drop};
 ghost use Rattle.ground.specs.Below.{all_below};
 ghost use Rattle.spelling.specs.Spelling.{digit_of};
 ghost use Rattle.reader.specs.Reader.{parsed};
-ghost use Rattle.text.specs.Entries.{longest};
 ghost use Rattle.text.specs.Numbers.{digit_at};
 ghost use Rattle.text.specs.Hex.{is_hexed, unhexed, parse_asked};
 
 use crate::words::LONGEST;
 use commands::Entry;
-use reader::Parsed;
+use message::Values;
+use reader::Unread;
 use spelling::digit_of;
 
 const BASE: u64 = 16;
@@ -17,19 +17,11 @@ const BASE: u64 = 16;
 // Room for the bytes of the longest word.
 const MOST: usize = LONGEST / 2;
 
-#[tactic(auto, using(crate::proofs::Digits::digit_at_lem), unfolding(ground::specs::Below::all_below))]
+#[tactic(auto, using(crate::proofs::Digits::digits_all))]
 fn all_digits(w: &[u8]) -> bool
     ensures { result ≡ all_below (digit_at 16 w.now) (length w.now) }
 {
-    let mut i = 0;
-    while i < w.len() {
-        let d = digit_of(w[i]);
-        if BASE <= d {
-            return false;
-        }
-        i += 1;
-    }
-    true
+    w.iter().all(|b| digit_of(*b) < BASE)
 }
 
 // At least two digits, and an even number of them.
@@ -37,10 +29,7 @@ fn all_digits(w: &[u8]) -> bool
 fn is_hexed(w: &[u8]) -> bool
     ensures { result ≡ is_hexed w.now }
 {
-    let some = 0 < w.len();
-    let even = w.len() % 2 == 0;
-    let digits = all_digits(w);
-    ground::both(some, ground::both(even, digits))
+    !w.is_empty() && w.len() % 2 == 0 && all_digits(w)
 }
 
 fn byte_of(a: u8, b: u8) -> u8
@@ -56,31 +45,23 @@ fn unhex(w: &[u8], out: &mut [u8])
     requires { (all_below (digit_at 16 w.now) (length w.now) ≡ true) × (length w.now / 2 ≤ length out.old) }
     ensures { out.new ≡ unhexed w.now ++ drop (length w.now / 2) out.old }
 {
-    let n = w.len() / 2;
-    let mut i = 0;
-    while i < n {
-        out[i] = byte_of(w[2 * i], w[2 * i + 1]);
-        i += 1;
+    let (pairs, _) = w.as_chunks::<2>();
+    for (i, pair) in pairs.iter().enumerate() {
+        out[i] = byte_of(pair[0], pair[1]);
     }
-}
-
-fn blank() -> [u8; MOST]
-    ensures { result ≡ replicate (longest / 2) 0 }
-{
-    [0; MOST]
 }
 
 // What the reader says of these bytes. No line has more than there is room for; so many would be no message.
 #[tactic(auto, using(crate::proofs::Unhexed::too_many, crate::proofs::Unhexed::at_front))]
-fn parse(w: &[u8]) -> Parsed
+fn parse(w: &[u8]) -> Result<Values, Unread>
     requires { all_below (digit_at 16 w.now) (length w.now) ≡ true }
     ensures { result ≡ parsed (unhexed w.now) }
 {
     let n = w.len() / 2;
     if MOST < n {
-        return Parsed::Refused(reader::NOT_A_MESSAGE);
+        return Err(Unread::NotAMessage);
     }
-    let mut buffer = blank();
+    let mut buffer = [0; MOST];
     unhex(w, &mut buffer);
     reader::parse(&buffer[0..n])
 }
@@ -89,9 +70,9 @@ fn parse(w: &[u8]) -> Parsed
 pub fn parse_asked(w: &[u8]) -> Entry
     ensures { result ≡ parse_asked w.now }
 {
-    let hexed = is_hexed(w);
-    if hexed {
-        return Entry::Parse(parse(w));
+    if is_hexed(w) {
+        Entry::Parse(parse(w))
+    } else {
+        Entry::Unknown
     }
-    Entry::Unknown
 }

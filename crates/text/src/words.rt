@@ -9,18 +9,11 @@ pub const LINE_FEED: u8 = b'\n';
 pub const LONGEST: usize = 500;
 
 // How many bytes come before the first b; all of them if there is no b.
-#[tactic(auto, using(crate::proofs::Bytes::stops, crate::proofs::Bytes::passes))]
+#[tactic(auto, using(crate::proofs::Bytes::first_found))]
 pub fn first_of(s: &[u8], b: u8) -> usize
     ensures { result ≡ first_of b s.now }
 {
-    let mut i = 0;
-    while i < s.len() {
-        if s[i] == b {
-            return i;
-        }
-        i += 1;
-    }
-    i
+    s.iter().position(|x| *x == b).unwrap_or(s.len())
 }
 
 // Where the word after the one at this place begins. Past the end of the line the place stays as it is.
@@ -31,8 +24,7 @@ pub fn after_word(line: &[u8], at: usize) -> usize
     if line.len() < at {
         return at;
     }
-    let n = first_of(&line[at..], b' ');
-    at + n + 1
+    at + first_of(&line[at..], b' ') + 1
 }
 
 // The word at one place. It ends one byte before the place of the next word.
@@ -40,17 +32,8 @@ pub fn after_word(line: &[u8], at: usize) -> usize
 pub fn word_between(line: &[u8], at: usize, next: usize) -> &[u8]
     ensures { result.now ≡ word_between line.now at next }
 {
-    if next <= at {
-        return &line[..0];
-    }
-    if line.len() < at {
-        return &line[..0];
-    }
-    let end = next - 1;
-    if line.len() < end {
-        return &line[at..];
-    }
-    &line[at..end]
+    let end = next.saturating_sub(1).min(line.len());
+    line.get(at..end).unwrap_or(&[])
 }
 
 // How much of an unfinished line is kept: one byte more than a command may have, so that a line that is too long stays too long.
@@ -60,25 +43,18 @@ const KEPT: usize = LONGEST + 1;
 fn kept_of(n: usize) -> usize
     ensures { result ≡ kept_of n }
 {
-    if n < KEPT { n } else { KEPT }
+    n.min(KEPT)
 }
 
 // Moves the bytes from `from` up to `to` to the front, but at most KEPT of them, and answers how many.
-#[tactic(auto, using(crate::proofs::Bytes::too_short, crate::proofs::Bytes::none_left, crate::proofs::Bytes::kept_few, crate::proofs::Bytes::all_moved))]
+#[tactic(auto, using(crate::proofs::Bytes::too_short, crate::proofs::Bytes::none_left, crate::proofs::Bytes::kept_few))]
 pub fn keep(input: &mut [u8], from: usize, to: usize) -> usize
     ensures { Kept input.old input.new from to result }
 {
-    if input.len() < to {
-        return 0;
-    }
-    if to < from {
+    if input.len() < to || to < from {
         return 0;
     }
     let n = kept_of(to - from);
-    let mut i = 0;
-    while i < n {
-        input[i] = input[from + i];
-        i += 1;
-    }
+    input.copy_within(from..from + n, 0);
     n
 }

@@ -6,13 +6,12 @@ use Rattle.books.specs.declared.ArchiveLine.{ArchiveLine}
 use Rattle.books.specs.declared.LogLine.{LogLine}
 use Rattle.books.specs.declared.AuditLine.{AuditLine}
 use Rattle.state.specs.declared.State.{State}
-use Rattle.state.specs.State.{whole_b}
 use Rattle.commands.specs.declared.Command.{Command}
 use Rattle.commands.specs.declared.Reply.{Reply}
 use Rattle.commands.specs.declared.Answer.{Answer}
 use Rattle.commands.specs.Answers.{World}
 use Rattle.steps.specs.Step.{step}
-use Rattle.device.specs.Plan.{world_of, seen_of, turn_of, answer_in}
+use Rattle.device.specs.Plan.{world_of, answer_in}
 use Rattle.trials.specs.declared.lend.Lent.{Lent}
 
 unfoldable pub the_lent : Answer → List ArchiveLine → List LogLine → List AuditLine → Lent
@@ -26,12 +25,3 @@ with_rest t archive log audit = the_lent (answer_in t) (t.0.archive ++ archive) 
 unfoldable pub lent_of : State → Command → List ArchiveLine → List LogLine → List AuditLine → ℕ → ℕ → ℕ → Lent
 lent_of s c archive log audit months events changes =
     with_rest (step c (world_of s (take months archive) (take events log) (take changes audit))) (drop months archive) (drop events log) (drop changes audit)
-
--- ---- how the code goes
-
-abbrev pub turned : State → Command → List ArchiveLine → List LogLine → List AuditLine → World × Reply
-turned s c archive log audit = turn_of (whole_b s) s c (seen_of (whole_b s) s c archive log audit) archive log audit
-
-unfoldable pub lent_by : State → Command → List ArchiveLine → List LogLine → List AuditLine → ℕ → ℕ → ℕ → Lent
-lent_by s c archive log audit months events changes =
-    with_rest (turned s c (take months archive) (take events log) (take changes audit)) (drop months archive) (drop events log) (drop changes audit)

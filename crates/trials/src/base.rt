@@ -1,9 +1,9 @@
 // The whole state from which the trials start. Every command can be accepted in it.
 use outputs::{Account, Output};
 use ring::{Book, Ring};
-use settings::table::{CHOICE_1, CUSTOMER, K_F, P_F, WEIGHT_1};
+use settings::table::{CHOICE_1, CHOICE_2, CHOICE_4, CUSTOMER, K_F, P_F, WEIGHT_2, WEIGHT_4};
 use settings::{Setting, Value};
-use state::{Alarms, Cell, Core, Counters, Locks, Session, State, Stores};
+use state::{Alarms, Cell, Core, Counters, Locks, Measured, Session, State, Stores};
 use units::{BaseUnits, Litres};
 
 const SUPPLIERS_CODE: u32 = 1234;
@@ -15,7 +15,8 @@ pub const TIME: u64 = 100_000_000;
 
 const MONTH: u64 = 38;
 
-pub fn counters(vm: u64, vmd: u64, vmt: u64, vb: u64, vbd: u64, vbt: u64) -> Counters {
+// Vm, VmD, VmT, Vb, VbD and VbT.
+pub fn counters([vm, vmd, vmt, vb, vbd, vbt]: [u64; 6]) -> Counters {
     Counters {
         vm: Litres(vm),
         vmd: Litres(vmd),
@@ -58,64 +59,65 @@ pub fn output(account: u64, waiting: u16, lost: u32) -> Output {
 pub fn with_setting(
     a: [Setting; settings::COUNT],
     place: usize,
-    v: Value,
+    value: Value,
 ) -> [Setting; settings::COUNT] {
-    settings::setting_put(a, place, Setting { value: v })
+    settings::setting_put(a, place, Setting { value })
 }
 
 // Output 1 follows VmT and output 2 VbT. Output 3 is off. Output 4 follows VmD.
 fn settings_in_force() -> [Setting; settings::COUNT] {
-    let a = with_setting(settings::factory_settings(), CHOICE_1, Value::Whole(3));
-    let b = with_setting(a, CHOICE_1 + 1, Value::Whole(6));
-    let c = with_setting(b, CHOICE_1 + 3, Value::Whole(2));
-    let d = with_setting(c, WEIGHT_1 + 1, Value::Whole(250));
-    with_setting(d, WEIGHT_1 + 3, Value::Whole(1_000_000))
+    let mut settings = settings::factory_settings();
+    settings[CHOICE_1].value = Value::Whole(3);
+    settings[CHOICE_2].value = Value::Whole(6);
+    settings[CHOICE_4].value = Value::Whole(2);
+    settings[WEIGHT_2].value = Value::Whole(250);
+    settings[WEIGHT_4].value = Value::Whole(1_000_000);
+    settings
 }
 
 // The accounts of outputs 1 and 2 are one below their weights. The buffer of output 2 is full, and its lost counter at its highest. Output 3 still has what waited when it
 // was switched off. No pulse waits at output 4.
 fn outputs_in_use() -> [Output; outputs::COUNT] {
-    let one = output(99, 7, 3);
-    let two = output(24_999_999, 65_535, 4_294_967_295);
-    let three = output(0, 2, 1);
-    let four = output(5, 0, 0);
-    [one, two, three, four]
+    [
+        output(99, 7, 3),
+        output(24_999_999, u16::MAX, u32::MAX),
+        output(0, 2, 1),
+        output(5, 0, 0),
+    ]
 }
 
 // Both totals have rolled over. The pressure alarm is present; the temperature alarm is over but still latched. The archive and the logbook are full.
 fn core() -> Core {
-    let blank = state::fresh_state(TIME, SUPPLIERS_CODE, CUSTOMERS_CODE);
-    let fresh = blank.core;
-    let mut measured = fresh.measured;
-    measured.month = MONTH;
-    measured.counters = counters(
-        999_999_999_999,
-        5_000,
-        4_999,
-        99_999_999_999_999_999,
-        700,
-        699,
-    );
-    measured.alarms = alarms(true, false, false);
-    let stores = Stores {
-        archive: Ring { held: 15, next: 3 },
-        log: book(250, 7, 257),
-        audit: book(12, 12, 12),
-    };
     Core {
-        measured: measured,
+        measured: Measured {
+            time: TIME,
+            month: MONTH,
+            counters: counters([
+                999_999_999_999,
+                5_000,
+                4_999,
+                99_999_999_999_999_999,
+                700,
+                699,
+            ]),
+            alarms: alarms(true, false, false),
+        },
         latches: alarms(true, true, false),
         locks: locks(true, false, false),
         settings: settings_in_force(),
         outputs: outputs_in_use(),
-        stores: stores,
+        stores: Stores {
+            archive: Ring { held: 15, next: 3 },
+            log: book(250, 7, 257),
+            audit: book(12, 12, 12),
+        },
     }
 }
 
-pub fn staged(v: Value) -> Cell {
+pub fn staged(value: Value) -> Cell {
     Cell {
         staged: true,
-        value: v,
+        value,
         read: false,
         overtaken: false,
     }
@@ -131,11 +133,9 @@ pub fn seen(read: bool, overtaken: bool) -> Cell {
 }
 
 pub fn with_cell(x: Session, place: usize, c: Cell) -> Session {
-    let cells = x.cells;
-    let after = state::cell_put(cells, place, c);
     Session {
-        live: x.live,
-        cells: after,
+        cells: state::cell_put(x.cells, place, c),
+        ..x
     }
 }
 
@@ -148,25 +148,24 @@ fn keypad() -> Session {
 // It has read the customer's number and staged it.
 fn port() -> Session {
     let c = Cell {
-        staged: true,
-        value: Value::Whole(77),
         read: true,
-        overtaken: false,
+        ..staged(Value::Whole(77))
     };
     with_cell(staging::begun_session(), CUSTOMER, c)
 }
 
 // A session at the keypad, none at the port.
 pub fn one_session() -> State {
-    let core = core();
-    let keypad = keypad();
-    let port = state::no_session();
-    State { core, keypad, port }
+    State {
+        core: core(),
+        keypad: keypad(),
+        port: state::no_session(),
+    }
 }
 
 pub fn two_sessions() -> State {
-    let core = core();
-    let keypad = keypad();
-    let port = port();
-    State { core, keypad, port }
+    State {
+        port: port(),
+        ..one_session()
+    }
 }

@@ -1,155 +1,94 @@
 // A state with one part changed.
 use crate::base;
-use outputs::Output;
+use outputs::{Account, Output};
 use ring::{Book, Ring};
 use settings::Value;
 use settings::table::{CHOICE_1, K_F, P_MAX, WEIGHT_1};
-use state::{Alarms, Cell, Counters, Locks, Measured, Session, State};
+use state::{Alarms, Cell, Counters, Locks, Session, State};
 
-fn with_measured(s: State, measured: Measured) -> State {
-    let mut core = s.core;
-    core.measured = measured;
-    state::with_core(s, core)
+pub fn time(mut s: State, time: u64, month: u64) -> State {
+    s.core.measured.time = time;
+    s.core.measured.month = month;
+    s
 }
 
-pub fn time(s: State, time: u64, month: u64) -> State {
-    let core = s.core;
-    let mut measured = core.measured;
-    measured.time = time;
-    measured.month = month;
-    with_measured(s, measured)
+pub fn counters(mut s: State, c: Counters) -> State {
+    s.core.measured.counters = c;
+    s
 }
 
-pub fn counters(s: State, c: Counters) -> State {
-    let core = s.core;
-    let mut measured = core.measured;
-    measured.counters = c;
-    with_measured(s, measured)
+pub fn alarms(mut s: State, present: Alarms, latched: Alarms) -> State {
+    s.core.measured.alarms = present;
+    s.core.latches = latched;
+    s
 }
 
-pub fn alarms(s: State, present: Alarms, latched: Alarms) -> State {
-    let mut core = s.core;
-    let mut measured = core.measured;
-    measured.alarms = present;
-    core.measured = measured;
-    core.latches = latched;
-    state::with_core(s, core)
+pub fn locks(mut s: State, locks: Locks) -> State {
+    s.core.locks = locks;
+    s
 }
 
-pub fn locks(s: State, locks: Locks) -> State {
-    let mut core = s.core;
-    core.locks = locks;
-    state::with_core(s, core)
+pub fn archive(mut s: State, r: Ring) -> State {
+    s.core.stores.archive = r;
+    s
 }
 
-pub fn archive(s: State, r: Ring) -> State {
-    let mut core = s.core;
-    let mut stores = core.stores;
-    stores.archive = r;
-    core.stores = stores;
-    state::with_core(s, core)
+pub fn log(mut s: State, b: Book) -> State {
+    s.core.stores.log = b;
+    s
 }
 
-pub fn log(s: State, b: Book) -> State {
-    let mut core = s.core;
-    let mut stores = core.stores;
-    stores.log = b;
-    core.stores = stores;
-    state::with_core(s, core)
+pub fn audit(mut s: State, b: Book) -> State {
+    s.core.stores.audit = b;
+    s
 }
 
-pub fn audit(s: State, b: Book) -> State {
-    let mut core = s.core;
-    let mut stores = core.stores;
-    stores.audit = b;
-    core.stores = stores;
-    state::with_core(s, core)
+pub fn setting(mut s: State, place: usize, v: Value) -> State {
+    s.core.settings = base::with_setting(s.core.settings, place, v);
+    s
 }
 
-pub fn setting(s: State, place: usize, v: Value) -> State {
-    let mut core = s.core;
-    let before = core.settings;
-    let after = base::with_setting(before, place, v);
-    core.settings = after;
-    state::with_core(s, core)
-}
-
-fn with_account(a: [Output; outputs::COUNT], k: usize, account: u64) -> [Output; outputs::COUNT] {
-    if k < outputs::COUNT {
-        let x = a[k];
-        let mut b = a;
-        b[k] = base::output(account, x.waiting, x.lost);
-        b
-    } else {
-        a
-    }
-}
-
-pub fn outputs(s: State, all: [Output; outputs::COUNT]) -> State {
-    let mut core = s.core;
-    core.outputs = all;
-    state::with_core(s, core)
+pub fn outputs(mut s: State, all: [Output; outputs::COUNT]) -> State {
+    s.core.outputs = all;
+    s
 }
 
 // Another choice, weight and account of one output. It is named by its place, from 0; what waits there and what was lost stay.
-pub fn output(s: State, k: usize, choice: i64, weight: i64, account: u64) -> State {
+pub fn output(mut s: State, k: usize, choice: i64, weight: i64, account: u64) -> State {
     if k < outputs::COUNT {
-        let chosen = setting(s, CHOICE_1 + k, Value::Whole(choice));
-        let weighed = setting(chosen, WEIGHT_1 + k, Value::Whole(weight));
-        let core = s.core;
-        let before = core.outputs;
-        outputs(weighed, with_account(before, k, account))
-    } else {
-        s
+        s.core.settings[CHOICE_1 + k].value = Value::Whole(choice);
+        s.core.settings[WEIGHT_1 + k].value = Value::Whole(weight);
+        s.core.outputs[k].account = Account(account);
     }
+    s
 }
 
 // With every output off, no account depends on a choice or a weight.
-pub fn outputs_off(s: State) -> State {
-    let one = output(s, 0, 0, 100, 0);
-    let two = output(one, 1, 0, 100, 0);
-    let three = output(two, 2, 0, 100, 0);
-    output(three, 3, 0, 100, 0)
-}
-
-fn keypad(s: State, x: Session) -> State {
-    let core = s.core;
-    let port = s.port;
-    State {
-        core,
-        keypad: x,
-        port,
+pub fn outputs_off(mut s: State) -> State {
+    for k in 0..outputs::COUNT {
+        s = output(s, k, 0, 100, 0);
     }
-}
-
-fn port(s: State, x: Session) -> State {
-    let core = s.core;
-    let keypad = s.keypad;
-    State {
-        core,
-        keypad,
-        port: x,
-    }
+    s
 }
 
 pub fn session(s: State, door: u64, x: Session) -> State {
-    let first = door == 1;
-    if first { keypad(s, x) } else { port(s, x) }
+    if door == 1 {
+        State { keypad: x, ..s }
+    } else {
+        State { port: x, ..s }
+    }
 }
 
 pub fn cell(s: State, door: u64, place: usize, c: Cell) -> State {
-    let first = door == 1;
-    if first {
-        keypad(s, base::with_cell(s.keypad, place, c))
-    } else {
-        port(s, base::with_cell(s.port, place, c))
-    }
+    let x = if door == 1 { s.keypad } else { s.port };
+    session(s, door, base::with_cell(x, place, c))
 }
 
 // The session at the keypad has staged this value of this setting, and nothing else.
 pub fn staged_alone(s: State, place: usize, v: Value) -> State {
-    keypad(
+    session(
         s,
+        1,
         base::with_cell(staging::begun_session(), place, base::staged(v)),
     )
 }

@@ -1,139 +1,133 @@
 // Trials of a state: commands in the bench's form, one a line, each put to the state over stores of which some lines are lent. Printed are the command, the number
 // answered, what has become of the state and the stores, and whether a value was given.
-use crate::lend::Lent;
-use crate::{change, lend, same, stores};
-use commands::{Command, Entry, Given};
-use ground::both;
-use print::{Printer, end, number, text};
-use reader::Parsed;
+use crate::lend::Lines;
+use crate::same::Same;
+use crate::{change, lend, stores};
+use commands::{Answer, Command, Entry, Given};
+use print::Out;
 use state::State;
-use text::words::LINE_FEED;
+use std::fmt::Display;
+use std::io::Write;
+use std::{fmt, io};
 
-// How many lines of each store are lent.
-#[derive(Clone, Copy)]
-pub struct Lines {
-    pub months: usize,
-    pub events: usize,
-    pub changes: usize,
+// What has become of the state and the stores. If only a session has ended, its door is named.
+#[derive(Clone, Copy, PartialEq, Eq)]
+pub enum Fate {
+    Same,
+    Ended(u64),
+    Changed,
 }
 
-pub fn exact() -> Lines {
-    Lines {
-        months: ring::ARCHIVE_LINES as usize,
-        events: ring::LOG_LINES as usize,
-        changes: ring::AUDIT_LINES as usize,
+impl Fate {
+    // Compares what came back with what went in; `kept` says whether the stores are as they were.
+    fn of(before: State, after: State, kept: bool) -> Fate {
+        let ended = |door| after.same(&change::session(before, door, state::no_session()));
+        if !kept {
+            Fate::Changed
+        } else if after.same(&before) {
+            Fate::Same
+        } else if ended(1) {
+            Fate::Ended(1)
+        } else if ended(2) {
+            Fate::Ended(2)
+        } else {
+            Fate::Changed
+        }
     }
 }
 
-fn gives_value(g: Given) -> bool {
-    match g {
-        Given::Nothing => false,
-        _ => true,
+impl Display for Fate {
+    fn fmt<W: fmt::Write>(&self, f: &mut fmt::Formatter<W>) -> fmt::Result {
+        match self {
+            Fate::Same => f.write_str("same"),
+            Fate::Ended(door) => write!(f, "ended {door}"),
+            Fate::Changed => f.write_str("changed"),
+        }
     }
 }
 
-// All lines of the arrays, including those that were not lent.
-fn stores_kept(t: Lent) -> bool {
-    let archive = t.archive;
-    let log = t.log;
-    let audit = t.audit;
-    both(
-        stores::archive_kept(archive),
-        both(stores::log_kept(log), stores::audit_kept(audit)),
-    )
+// What is said of a line: that it asks for nothing or for something unknown, or the number answered and what has become of the state. `gives` says that a value was given.
+#[derive(Clone, Copy, PartialEq, Eq)]
+pub enum Outcome {
+    Nothing,
+    Unknown,
+    Answered {
+        number: u64,
+        fate: Fate,
+        gives: bool,
+    },
 }
 
-fn ended(s: State, door: u64, after: State) -> bool {
-    let none = state::no_session();
-    let without = change::session(s, door, none);
-    same::states(without, after)
-}
-
-// Compares what came back with what went in. If only a session has ended, its door is named.
-fn fate(out: &mut Printer, s: State, after: State, kept: bool) {
-    if both(kept, same::states(s, after)) {
-        text(out, b" same");
-    } else if both(kept, ended(s, 1, after)) {
-        text(out, b" ended 1");
-    } else if both(kept, ended(s, 2, after)) {
-        text(out, b" ended 2");
-    } else {
-        text(out, b" changed");
+impl Outcome {
+    fn of(before: State, answer: Answer, kept: bool) -> Outcome {
+        Outcome::Answered {
+            number: answer.reply.number,
+            fate: Fate::of(before, answer.state, kept),
+            gives: !matches!(answer.reply.given, Given::Nothing),
+        }
     }
 }
 
-fn outcome(s: State, c: Command, x: Lines) -> Lent {
-    let archive = stores::archive();
-    let log = stores::log();
-    let audit = stores::audit();
-    lend::put(s, c, archive, log, audit, x.months, x.events, x.changes)
+impl Display for Outcome {
+    fn fmt<W: fmt::Write>(&self, f: &mut fmt::Formatter<W>) -> fmt::Result {
+        match self {
+            Outcome::Nothing => f.write_str("nothing"),
+            Outcome::Unknown => f.write_str("unknown"),
+            Outcome::Answered {
+                number,
+                fate,
+                gives,
+            } => write!(f, "{number} {fate}{}", if *gives { " value" } else { "" }),
+        }
+    }
 }
 
-fn told(out: &mut Printer, s: State, t: Lent) {
-    let a = t.answer;
-    let reply = a.reply;
-    let after = a.state;
-    let given = reply.given;
-    number(out, reply.number);
-    fate(out, s, after, stores_kept(t));
-    if gives_value(given) {
-        text(out, b" value");
-    }
+// The stores are compared with all the lines of the arrays, including those that were not lent.
+fn put(s: State, c: Command, lines: Lines) -> Outcome {
+    let t = lend::put(
+        s,
+        c,
+        stores::lines(),
+        stores::lines(),
+        stores::lines(),
+        lines,
+    );
+    let kept = stores::kept(&t.archive) && stores::kept(&t.log) && stores::kept(&t.audit);
+    Outcome::of(s, t.answer, kept)
 }
 
 // One command, over stores of their exact lengths.
-pub fn put_exact(out: &mut Printer, s: State, c: Command) {
-    told(out, s, outcome(s, c, exact()));
+pub fn put_exact(s: State, c: Command) -> Outcome {
+    put(s, c, Lines::EXACT)
 }
 
-// A start is lent nothing, and replaces the state.
-fn started(out: &mut Printer, s: State, time: u64, supcode: u32, custcode: u32) {
-    let a = panel::start(time, supcode, custcode);
-    let reply = a.reply;
-    let after = a.state;
-    number(out, reply.number);
-    fate(out, s, after, true);
-}
-
-// The reader is lent no state.
-fn parsed(out: &mut Printer, s: State, p: Parsed) {
-    match p {
-        Parsed::Accepted(_) => number(out, state::faults::DONE),
-        Parsed::Refused(n) => number(out, n),
-    }
-    fate(out, s, s, true);
-}
-
-fn answer(out: &mut Printer, s: State, e: Entry, x: Lines) {
+// A start is lent nothing, and replaces the state. The reader is lent no state.
+fn outcome_of(s: State, e: Entry, lines: Lines) -> Outcome {
     match e {
-        Entry::Nothing => text(out, b" nothing"),
-        Entry::Unknown => text(out, b" unknown"),
+        Entry::Nothing => Outcome::Nothing,
+        Entry::Unknown => Outcome::Unknown,
         Entry::Start {
             time,
             supcode,
             custcode,
-        } => started(out, s, time, supcode, custcode),
-        Entry::Put(c) => told(out, s, outcome(s, c, x)),
-        Entry::Parse(p) => parsed(out, s, p),
+        } => Outcome::of(s, panel::start(time, supcode, custcode), true),
+        Entry::Put(c) => put(s, c, lines),
+        Entry::Parse(read) => Outcome::Answered {
+            number: match read {
+                Ok(_) => 0,
+                Err(unread) => unread.number(),
+            },
+            fate: Fate::Same,
+            gives: false,
+        },
     }
-}
-
-fn trial(out: &mut Printer, line: &[u8], s: State, x: Lines) {
-    text(out, b"  ");
-    text(out, line);
-    text(out, b":");
-    answer(out, s, text::entries::entry_of(line), x);
-    end(out);
 }
 
 // Every line of the list.
-pub fn each(out: &mut Printer, list: &[u8], s: State, x: Lines) {
-    let mut at: usize = 0;
-    let mut n = text::words::first_of(list, LINE_FEED);
-    while n < list.len() - at {
-        let stop = at + n;
-        trial(out, &list[at..stop], s, x);
-        at = stop + 1;
-        n = text::words::first_of(&list[at..], LINE_FEED);
+pub fn each(out: &mut Out, list: &str, s: State, lines: Lines) -> io::Result<()> {
+    for line in list.lines() {
+        let entry = text::entries::entry_of(line.as_bytes());
+        writeln!(out, "  {line}: {}", outcome_of(s, entry, lines))?;
     }
+    Ok(())
 }

@@ -13,20 +13,20 @@ mod table;
 mod taken;
 mod totals;
 
-use print::Printer;
 use std::io;
+use std::io::{BufWriter, Write};
 
 fn main(rt: HostRuntime) -> io::Result<()> {
-    let mut out = Printer::new(&rt)?;
-    months::run(&mut out);
-    factors::run(&mut out);
-    amounts::run(&mut out);
-    totals::run(&mut out);
-    measures::run(&mut out);
-    taken::run(&mut out);
-    table::run(&mut out);
-    stores::run(&mut out);
-    pulses::run(&mut out);
-    messages::run(&mut out);
-    out.finish()
+    let mut out = BufWriter::new(rt.alloc(), rt.stdout())?;
+    months::run(&mut out)?;
+    factors::run(&mut out)?;
+    amounts::run(&mut out)?;
+    totals::run(&mut out)?;
+    measures::run(&mut out)?;
+    taken::run(&mut out)?;
+    table::run(&mut out)?;
+    stores::run(&mut out)?;
+    pulses::run(&mut out)?;
+    messages::run(&mut out)?;
+    out.flush()
 }

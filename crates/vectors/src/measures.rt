@@ -1,116 +1,104 @@
 // The temperature: the nearest hundredth of a float, and the equation.
-use print::{Printer, end, float, gives, infinity, not_a_number, number, signed, text};
-use temperature::{Coefficients, Measured};
+use print::{Bits, Or, Out};
+use std::fmt::Display;
+use std::io::Write;
+use std::{fmt, io};
+use temperature::Coefficients;
 
-pub fn set(eq1: f64, eq2: f64, eq3: f64) -> Coefficients {
-    Coefficients { eq1, eq2, eq3 }
-}
+// The three coefficients, each by its bits.
+#[derive(Clone, Copy)]
+pub struct Equation(pub Coefficients);
 
-pub fn factory() -> Coefficients {
-    set(-40.0, 0.0078125, 0.0)
-}
-
-pub fn coefficients(out: &mut Printer, c: Coefficients) {
-    float(out, c.eq1);
-    float(out, c.eq2);
-    float(out, c.eq3);
-}
-
-fn found(out: &mut Printer, m: Measured) {
-    match m {
-        Measured::Failed => text(out, b" failed"),
-        Measured::Hundredths(t) => signed(out, t),
+impl Display for Equation {
+    fn fmt<W: fmt::Write>(&self, f: &mut fmt::Formatter<W>) -> fmt::Result {
+        let Coefficients { eq1, eq2, eq3 } = self.0;
+        write!(f, "{} {} {}", Bits(eq1), Bits(eq2), Bits(eq3))
     }
 }
 
-fn nearest(out: &mut Printer, x: f64) {
-    text(out, b"nearest");
-    float(out, x);
-    gives(out);
-    found(out, temperature::nearest_hundredth(x));
-    end(out);
-}
-
-fn measured(out: &mut Printer, eq1: f64, eq2: f64, eq3: f64, raw: u16) {
-    let c = set(eq1, eq2, eq3);
-    text(out, b"measured");
-    coefficients(out, c);
-    number(out, raw as u64);
-    gives(out);
-    found(out, temperature::measure(c, raw));
-    end(out);
-}
-
-fn floats(out: &mut Printer) {
-    // H6
-    nearest(out, -0.5);
-    nearest(out, 2000.5);
-    nearest(out, -0.25);
-    nearest(out, 20000.0);
-    nearest(out, 20000.000000000004);
-    // Halves, and the floats beside them.
-    nearest(out, 0.5);
-    nearest(out, 0.49999999999999994);
-    nearest(out, -0.49999999999999994);
-    nearest(out, 0.5000000000000001);
-    nearest(out, 1.5);
-    nearest(out, -1.5);
-    nearest(out, 2.5);
-    nearest(out, -2.5);
-    nearest(out, -2000.5);
-    nearest(out, -2000.4999999999998);
-    nearest(out, 19999.5);
-    nearest(out, 19999.499999999996);
-    nearest(out, -9999.5);
-    // Both ends.
-    nearest(out, 19999.999999999996);
-    nearest(out, -10000.0);
-    nearest(out, -10000.000000000002);
-    // The smallest, the largest, and no number.
-    nearest(out, 0.0);
-    nearest(out, -0.0);
-    nearest(out, 5e-324);
-    nearest(out, -5e-324);
-    nearest(out, 1.7976931348623157e308);
-    nearest(out, -1.7976931348623157e308);
-    nearest(out, infinity());
-    nearest(out, -infinity());
-    nearest(out, not_a_number());
-}
-
-pub fn run(out: &mut Printer) {
-    floats(out);
-    measured(out, -40.0, 0.0078125, 0.0, 7_680);
-    measured(out, -40.0, 0.0078125, 0.0, 0);
-    measured(out, -40.0, 0.0078125, 0.0, 5_119);
-    measured(out, -40.0, 0.0078125, 0.0, 5_120);
-    measured(out, -40.0, 0.0078125, 0.0, 30_720);
-    measured(out, -40.0, 0.0078125, 0.0, 30_721);
-    measured(out, -40.0, 0.0078125, 0.0, 65_535);
-    measured(out, -100.0, 0.0078125, 0.0, 0);
-    measured(out, -100.01, 0.0078125, 0.0, 0);
-    measured(
-        out,
-        1.7976931348623157e308,
-        1.7976931348623157e308,
+fn floats(out: &mut Out) -> io::Result<()> {
+    for x in [
+        // H6
+        -0.5,
+        2000.5,
+        -0.25,
+        20000.0,
+        20000.000000000004,
+        // Halves, and the floats beside them.
+        0.5,
+        0.49999999999999994,
+        -0.49999999999999994,
+        0.5000000000000001,
+        1.5,
+        -1.5,
+        2.5,
+        -2.5,
+        -2000.5,
+        -2000.4999999999998,
+        19999.5,
+        19999.499999999996,
+        -9999.5,
+        // Both ends.
+        19999.999999999996,
+        -10000.0,
+        -10000.000000000002,
+        // The smallest, the largest, and no number.
         0.0,
-        65_535,
-    );
-    measured(
-        out,
-        0.0,
-        1.7976931348623157e308,
-        -1.7976931348623157e308,
-        65_535,
-    );
-    measured(out, 0.0, 0.0, 5e-324, 65_535);
-    // Near a half, where the answer depends on the order of the operations.
-    measured(out, -32.4, 0.00886, -1.45e-07, 7_000);
-    measured(out, -72.1875, 0.00948, -1.5e-07, 15_500);
-    measured(out, -61.4951, 0.00839, -1e-08, 12_700);
-    measured(out, -7.89675, 0.00945, -1.3e-08, 4_500);
-    measured(out, -47.555, 0.00552, -1.65e-07, 14_000);
-    measured(out, -56.355, 0.00816, 1.2e-07, 8_000);
-    measured(out, -65.524, 0.00737, -1.6e-08, 8_500);
-    measured(out, -37.1522, 0.00844, -7e-08, 10_800);
+        -0.0,
+        5e-324,
+        -5e-324,
+        f64::MAX,
+        f64::MIN,
+        f64::INFINITY,
+        f64::NEG_INFINITY,
+        f64::NAN,
+    ] {
+        writeln!(
+            out,
+            "nearest {} = {}",
+            Bits(x),
+            Or(temperature::nearest_hundredth(x), "failed")
+        )?;
+    }
+    Ok(())
+}
+
+fn equations(out: &mut Out) -> io::Result<()> {
+    for (eq1, eq2, eq3, raw) in [
+        (-40.0, 0.0078125, 0.0, 7_680),
+        (-40.0, 0.0078125, 0.0, 0),
+        (-40.0, 0.0078125, 0.0, 5_119),
+        (-40.0, 0.0078125, 0.0, 5_120),
+        (-40.0, 0.0078125, 0.0, 30_720),
+        (-40.0, 0.0078125, 0.0, 30_721),
+        (-40.0, 0.0078125, 0.0, 65_535),
+        (-100.0, 0.0078125, 0.0, 0),
+        (-100.01, 0.0078125, 0.0, 0),
+        (f64::MAX, f64::MAX, 0.0, 65_535),
+        (0.0, f64::MAX, f64::MIN, 65_535),
+        (0.0, 0.0, 5e-324, 65_535),
+        // Near a half, where the answer depends on the order of the operations.
+        (-32.4, 0.00886, -1.45e-07, 7_000),
+        (-72.1875, 0.00948, -1.5e-07, 15_500),
+        (-61.4951, 0.00839, -1e-08, 12_700),
+        (-7.89675, 0.00945, -1.3e-08, 4_500),
+        (-47.555, 0.00552, -1.65e-07, 14_000),
+        (-56.355, 0.00816, 1.2e-07, 8_000),
+        (-65.524, 0.00737, -1.6e-08, 8_500),
+        (-37.1522, 0.00844, -7e-08, 10_800),
+    ] {
+        let equation = Coefficients { eq1, eq2, eq3 };
+        writeln!(
+            out,
+            "measured {} {raw} = {}",
+            Equation(equation),
+            Or(temperature::measure(equation, raw), "failed")
+        )?;
+    }
+    Ok(())
+}
+
+pub fn run(out: &mut Out) -> io::Result<()> {
+    floats(out)?;
+    equations(out)
 }

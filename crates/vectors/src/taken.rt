@@ -1,204 +1,127 @@
 // The three readings: what is taken, and whether the alarm is present.
-use crate::measures::{coefficients, factory, set};
-use print::{Printer, end, flag, gives, number, signed, text};
-use readings::{Compressibility, Pressure, RawTemperature, Taken, TakenTemperature};
+use crate::measures::Equation;
+use print::{Or, Out, YesNo};
+use std::io;
+use std::io::Write;
 use temperature::Coefficients;
 
-fn taken(out: &mut Printer, t: Taken) {
-    gives(out);
-    flag(out, t.alarm);
-    number(out, t.value);
-    end(out);
+fn pressures(out: &mut Out) -> io::Result<()> {
+    for (mode, lowest, highest, fixed, reading) in [
+        // The first two are those of H5.
+        (1, 90_000, 700_000, 101_325, Some(89_999)),
+        (1, 90_000, 700_000, 101_325, Some(90_000)),
+        (1, 90_000, 700_000, 101_325, Some(202_650)),
+        (1, 90_000, 700_000, 101_325, Some(700_000)),
+        (1, 90_000, 700_000, 101_325, Some(700_001)),
+        (1, 90_000, 700_000, 101_325, None),
+        (0, 90_000, 700_000, 101_325, None),
+        (0, 90_000, 700_000, 101_325, Some(89_999)),
+        (0, 90_000, 700_000, 101_325, Some(202_650)),
+        (1, 10_000, 10_000_000, 500_000, Some(0)),
+        (1, 10_000, 10_000_000, 500_000, Some(u64::MAX)),
+        (1, 200_000, 200_000, 150_000, Some(200_000)),
+    ] {
+        let taken = readings::pressure_taken(mode, lowest, highest, fixed, reading);
+        writeln!(
+            out,
+            "pressure {mode} {lowest} {highest} {fixed} {} = {} {}",
+            Or(reading, "failed"),
+            YesNo(taken.alarm),
+            taken.value
+        )?;
+    }
+    Ok(())
 }
 
-fn pressure_limits(out: &mut Printer, mode: u64, lowest: u64, highest: u64, fixed: u64) {
-    text(out, b"pressure");
-    number(out, mode);
-    number(out, lowest);
-    number(out, highest);
-    number(out, fixed);
+fn ks(out: &mut Out) -> io::Result<()> {
+    for (mode, fixed, computed) in [
+        (1, 10_000, Some(4_999)),
+        (1, 10_000, Some(5_000)),
+        (1, 10_000, Some(9_876)),
+        (1, 10_000, Some(20_000)),
+        (1, 10_000, Some(20_001)),
+        (1, 12_345, None),
+        (0, 12_345, None),
+        (0, 12_345, Some(4_999)),
+        (0, 12_345, Some(9_876)),
+        (1, 12_345, Some(0)),
+        (1, 12_345, Some(u64::MAX)),
+    ] {
+        let taken = readings::k_taken(mode, fixed, computed);
+        writeln!(
+            out,
+            "k {mode} {fixed} {} = {} {}",
+            Or(computed, "failed"),
+            YesNo(taken.alarm),
+            taken.value
+        )?;
+    }
+    Ok(())
 }
 
-fn pressure(out: &mut Printer, mode: u64, lowest: u64, highest: u64, fixed: u64, p: u64) {
-    pressure_limits(out, mode, lowest, highest, fixed);
-    number(out, p);
-    taken(
-        out,
-        readings::pressure_taken(mode, lowest, highest, fixed, Pressure::Pascals(p)),
-    );
+const FACTORY: Coefficients = Coefficients {
+    eq1: -40.0,
+    eq2: 0.0078125,
+    eq3: 0.0,
+};
+
+// The equation has no value: an infinity less an infinity.
+const ENDLESS: Coefficients = Coefficients {
+    eq1: 0.0,
+    eq2: f64::MAX,
+    eq3: f64::MIN,
+};
+
+fn temperatures(out: &mut Out) -> io::Result<()> {
+    for (mode, lowest, highest, fixed, equation, reading) in [
+        (1, -2_000, 6_000, 1_500, FACTORY, Some(7_680)),
+        (1, -2_000, 6_000, 1_500, FACTORY, Some(2_559)),
+        (1, -2_000, 6_000, 1_500, FACTORY, Some(2_560)),
+        (1, -2_000, 6_000, 1_500, FACTORY, Some(12_800)),
+        (1, -2_000, 6_000, 1_500, FACTORY, Some(12_801)),
+        (1, -2_000, 6_000, 1_500, FACTORY, Some(65_535)),
+        (1, -2_000, 6_000, 1_500, FACTORY, None),
+        (0, -2_000, 6_000, 1_500, FACTORY, None),
+        (0, -2_000, 6_000, 1_500, FACTORY, Some(2_559)),
+        (0, -2_000, 6_000, 1_500, FACTORY, Some(7_680)),
+        (1, -10_000, 20_000, -300, FACTORY, Some(0)),
+        (1, -10_000, 20_000, -300, FACTORY, Some(30_720)),
+        (1, -10_000, 20_000, -300, FACTORY, Some(30_721)),
+        (1, -10_000, 20_000, -300, ENDLESS, Some(65_535)),
+    ] {
+        let taken = readings::temperature_taken(mode, lowest, highest, fixed, equation, reading);
+        writeln!(
+            out,
+            "temperature {mode} {lowest} {highest} {fixed} {} {} = {} {}",
+            Equation(equation),
+            Or(reading, "failed"),
+            YesNo(taken.alarm),
+            taken.value
+        )?;
+    }
+    Ok(())
 }
 
-fn pressure_failed(out: &mut Printer, mode: u64, lowest: u64, highest: u64, fixed: u64) {
-    pressure_limits(out, mode, lowest, highest, fixed);
-    text(out, b" failed");
-    taken(
-        out,
-        readings::pressure_taken(mode, lowest, highest, fixed, Pressure::Failed),
-    );
-}
-
-fn pressures(out: &mut Printer) {
-    // The first two are those of H5.
-    pressure(out, 1, 90_000, 700_000, 101_325, 89_999);
-    pressure(out, 1, 90_000, 700_000, 101_325, 90_000);
-    pressure(out, 1, 90_000, 700_000, 101_325, 202_650);
-    pressure(out, 1, 90_000, 700_000, 101_325, 700_000);
-    pressure(out, 1, 90_000, 700_000, 101_325, 700_001);
-    pressure_failed(out, 1, 90_000, 700_000, 101_325);
-    pressure_failed(out, 0, 90_000, 700_000, 101_325);
-    pressure(out, 0, 90_000, 700_000, 101_325, 89_999);
-    pressure(out, 0, 90_000, 700_000, 101_325, 202_650);
-    pressure(out, 1, 10_000, 10_000_000, 500_000, 0);
-    pressure(
-        out,
-        1,
-        10_000,
-        10_000_000,
-        500_000,
-        18_446_744_073_709_551_615,
-    );
-    pressure(out, 1, 200_000, 200_000, 150_000, 200_000);
-}
-
-fn k(out: &mut Printer, mode: u64, fixed: u64, k: u64) {
-    text(out, b"k");
-    number(out, mode);
-    number(out, fixed);
-    number(out, k);
-    taken(
-        out,
-        readings::k_taken(mode, fixed, Compressibility::Computed(k)),
-    );
-}
-
-fn k_failed(out: &mut Printer, mode: u64, fixed: u64) {
-    text(out, b"k");
-    number(out, mode);
-    number(out, fixed);
-    text(out, b" failed");
-    taken(
-        out,
-        readings::k_taken(mode, fixed, Compressibility::NotComputed),
-    );
-}
-
-fn ks(out: &mut Printer) {
-    k(out, 1, 10_000, 4_999);
-    k(out, 1, 10_000, 5_000);
-    k(out, 1, 10_000, 9_876);
-    k(out, 1, 10_000, 20_000);
-    k(out, 1, 10_000, 20_001);
-    k_failed(out, 1, 12_345);
-    k_failed(out, 0, 12_345);
-    k(out, 0, 12_345, 4_999);
-    k(out, 0, 12_345, 9_876);
-    k(out, 1, 12_345, 0);
-    k(out, 1, 12_345, 18_446_744_073_709_551_615);
-}
-
-fn taken_temperature(out: &mut Printer, t: TakenTemperature) {
-    gives(out);
-    flag(out, t.alarm);
-    signed(out, t.value);
-    end(out);
-}
-
-fn temperature_limits(
-    out: &mut Printer,
-    mode: u64,
-    lowest: i64,
-    highest: i64,
-    fixed: i64,
-    c: Coefficients,
-) {
-    text(out, b"temperature");
-    number(out, mode);
-    signed(out, lowest);
-    signed(out, highest);
-    signed(out, fixed);
-    coefficients(out, c);
-}
-
-fn temperature(
-    out: &mut Printer,
-    mode: u64,
-    lowest: i64,
-    highest: i64,
-    fixed: i64,
-    c: Coefficients,
-    raw: u16,
-) {
-    temperature_limits(out, mode, lowest, highest, fixed, c);
-    number(out, raw as u64);
-    let reading = RawTemperature::Raw(raw);
-    taken_temperature(
-        out,
-        readings::temperature_taken(mode, lowest, highest, fixed, c, reading),
-    );
-}
-
-fn temperature_failed(
-    out: &mut Printer,
-    mode: u64,
-    lowest: i64,
-    highest: i64,
-    fixed: i64,
-    c: Coefficients,
-) {
-    temperature_limits(out, mode, lowest, highest, fixed, c);
-    text(out, b" failed");
-    let reading = RawTemperature::Failed;
-    taken_temperature(
-        out,
-        readings::temperature_taken(mode, lowest, highest, fixed, c, reading),
-    );
-}
-
-fn temperatures(out: &mut Printer) {
-    let c = factory();
-    temperature(out, 1, -2_000, 6_000, 1_500, c, 7_680);
-    temperature(out, 1, -2_000, 6_000, 1_500, c, 2_559);
-    temperature(out, 1, -2_000, 6_000, 1_500, c, 2_560);
-    temperature(out, 1, -2_000, 6_000, 1_500, c, 12_800);
-    temperature(out, 1, -2_000, 6_000, 1_500, c, 12_801);
-    temperature(out, 1, -2_000, 6_000, 1_500, c, 65_535);
-    temperature_failed(out, 1, -2_000, 6_000, 1_500, c);
-    temperature_failed(out, 0, -2_000, 6_000, 1_500, c);
-    temperature(out, 0, -2_000, 6_000, 1_500, c, 2_559);
-    temperature(out, 0, -2_000, 6_000, 1_500, c, 7_680);
-    temperature(out, 1, -10_000, 20_000, -300, c, 0);
-    temperature(out, 1, -10_000, 20_000, -300, c, 30_720);
-    temperature(out, 1, -10_000, 20_000, -300, c, 30_721);
-    temperature(
-        out,
-        1,
+fn kelvins(out: &mut Out) -> io::Result<()> {
+    for t in [
+        -10_001,
         -10_000,
+        -1,
+        0,
+        2_000,
         20_000,
-        -300,
-        set(0.0, 1.7976931348623157e308, -1.7976931348623157e308),
-        65_535,
-    );
+        20_001,
+        i64::MIN,
+        i64::MAX,
+    ] {
+        writeln!(out, "kelvin {t} = {}", readings::kelvin(t))?;
+    }
+    Ok(())
 }
 
-fn kelvin(out: &mut Printer, t: i64) {
-    text(out, b"kelvin");
-    signed(out, t);
-    gives(out);
-    number(out, readings::kelvin(t));
-    end(out);
-}
-
-pub fn run(out: &mut Printer) {
-    pressures(out);
-    ks(out);
-    temperatures(out);
-    kelvin(out, -10_001);
-    kelvin(out, -10_000);
-    kelvin(out, -1);
-    kelvin(out, 0);
-    kelvin(out, 2_000);
-    kelvin(out, 20_000);
-    kelvin(out, 20_001);
-    kelvin(out, -9_223_372_036_854_775_808);
-    kelvin(out, 9_223_372_036_854_775_807);
+pub fn run(out: &mut Out) -> io::Result<()> {
+    pressures(out)?;
+    ks(out)?;
+    temperatures(out)?;
+    kelvins(out)
 }

@@ -1,10 +1,5 @@
-use Prim.Native.Nat.{◌-◌}
-use lib.ListN.{length}
 use Rattle.lines.proofs.Cuts.{Taken}
 use Rattle.lines.proofs.inputs_in.Given as goal
 
-abbrev pub invariant-loop-n : goal.invariant-loop-n
-invariant-loop-n l = Taken l.input l.inputs l.count l.at l.n
-
-abbrev pub decreases-loop-n : goal.decreases-loop-n
-decreases-loop-n l = length l.input - l.at
+abbrev pub invariant-loop-count : goal.invariant-loop-count
+invariant-loop-count l = Taken l.input l.inputs l.count l.at

@@ -1,9 +1,11 @@
-use Rattle.std.proofs.Common.{◌≡◌, length, arith}
-use Rattle.message.proofs.Check.{ends}
+use Rattle.std.proofs.Common.{◌≡◌, ◌∙◌, rules}
+use Rattle.std.proofs.iter.runs.Made.{chains}
+use Rattle.std.specs.Prelude.{bit_xor}
+use Rattle.std.specs.List.{fold}
+use Rattle.message.proofs.Check.{xor_folded}
 use Rattle.message.proofs.xor_of.Goals as goal
 
 pub returns : goal.returns
 returns c =
-    let part = c.args.part.now in
-    let e : c.loop-i.i ≡ length part = omega arith in
-    ends part c.loop-i.sum (rw e at c.loop-i.invariant.1)
+    let folded : c.fold.result ≡ fold (λ a b. bit_xor a b) 0 c.args.part.now = search (rules, chains) in
+    folded ∙ xor_folded c.args.part.now

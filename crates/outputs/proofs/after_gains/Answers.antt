@@ -1,31 +1,26 @@
--- After all places both lists are the definition's.
-use Rattle.std.proofs.Common.{◌≤◌, leb, refl, ◌∙◌, add-one, arith, leb-true}
-use Rattle.std.proofs.Math.Nat.{le_antisymm}
-use Rattle.ground.specs.Below.{in_turn}
-use Rattle.ground.specs.Ranges.{most_weight}
-use Rattle.ground.proofs.Flags.{whichever}
-use Rattle.ground.proofs.Listed.{all_put}
-use Rattle.outputs.specs.declared.Rule.{Rule}
-use Rattle.outputs.specs.Four.{output_count, all_gained}
-use Rattle.outputs.specs.Plan.{guarded_by, rule_guarded}
+-- Each entry of both lists is the definition's.
+use Rattle.std.proofs.Common.{◌≡◌, ℕ, ◌<◌, get_or, false, rules}
+use Rattle.ground.proofs.Chains.{listed_by}
+use Rattle.outputs.specs.declared.Gained.{Gained}
+use Rattle.outputs.specs.Outputs.{gained_by, fresh_output}
+use Rattle.outputs.specs.Four.{output_count, output_at, all_gained}
+use Rattle.outputs.specs.Plan.{rule_guarded}
 use Rattle.outputs.proofs.after_gains.Goals as goal
 
-guarded_fits : (r : Rule) → (guarded_by r).weight ≤ most_weight
-unfolding guarded_by
-guarded_fits r = whichever (λ (x : Rule). x.weight ≤ most_weight) (leb r.weight most_weight) (leb-true r.weight most_weight) (λ e. omega arith)
+none : Gained
+none = record { output = fresh_output; over = false }
 
-pub after_gain-x-requires : goal.after_gain-x-requires
-after_gain-x-requires c = rw c.guarded_by-fitting.ensures (guarded_fits _)
+module _ (c : goal.After-map-2) where
+  each : (k : ℕ) → k < output_count → get_or c.from_fn-gained.result k none ≡ gained_by (rule_guarded c.args.a k) c.args.g (output_at c.args.o k)
+  unfolding rule_guarded
+  each k l = let h = c.from_fn-gained.ensures.items.at k none l in search rules
 
-pub loop-k-preserved : goal.loop-k-preserved
-unfolding in_turn rule_guarded
-loop-k-preserved c = record {
-  outputs = simp (add-one, c.after_gain-x.ensures, c.guarded_by-fitting.ensures, c.rule_at-rule.ensures, c.loop-k.invariant.outputs);
-  over = simp (add-one, c.after_gain-x.ensures, c.guarded_by-fitting.ensures, c.rule_at-rule.ensures, c.loop-k.invariant.over);
-}
+  output : (k : ℕ) → k < output_count → output_at c.map.result k ≡ (gained_by (rule_guarded c.args.a k) c.args.g (output_at c.args.o k)).output
+  output k l = let h = c.map.ensures.items.at k none fresh_output l in let e = each k l in search rules
+
+  over : (k : ℕ) → k < output_count → get_or c.map-2.result k false ≡ (gained_by (rule_guarded c.args.a k) c.args.g (output_at c.args.o k)).over
+  over k l = let h = c.map-2.ensures.items.at k none false l in let e = each k l in search rules
 
 pub returns : goal.returns
 unfolding all_gained
-returns c =
-    let e = le_antisymm c.loop-k.auto.k-end c.loop-k-test.false in
-    rw ((rw e at c.loop-k.invariant.outputs) ∙ all_put _ output_count _ refl, (rw e at c.loop-k.invariant.over) ∙ all_put _ output_count _ refl)
+returns c = rw (listed_by _ fresh_output output_count c.map.result c.map.ensures.items.long (output c), listed_by _ false output_count c.map-2.result c.map-2.ensures.items.long (over c))

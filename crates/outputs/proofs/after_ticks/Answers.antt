@@ -1,20 +1,24 @@
--- After all places both lists are the definition's.
-use Rattle.std.proofs.Common.{refl, ◌∙◌, add-one}
-use Rattle.std.proofs.Math.Nat.{le_antisymm}
-use Rattle.ground.specs.Below.{in_turn}
-use Rattle.ground.proofs.Listed.{all_put}
-use Rattle.outputs.specs.Four.{output_count, all_ticked}
+-- Each entry of both lists is the definition's.
+use Rattle.std.proofs.Common.{◌≡◌, ℕ, ◌<◌, get_or, rules}
+use Rattle.ground.proofs.Chains.{listed_by}
+use Rattle.outputs.specs.declared.Ticked.{Ticked}
+use Rattle.outputs.specs.Outputs.{ticked_by, fresh_output}
+use Rattle.outputs.specs.Four.{output_count, output_at, all_ticked}
 use Rattle.outputs.proofs.after_ticks.Goals as goal
 
-pub loop-k-preserved : goal.loop-k-preserved
-unfolding in_turn
-loop-k-preserved c = record {
-  outputs = simp (add-one, c.after_tick-x.ensures, c.loop-k.invariant.outputs);
-  emitted = simp (add-one, c.after_tick-x.ensures, c.loop-k.invariant.emitted);
-}
+none : Ticked
+none = record { output = fresh_output; emitted = 0 }
+
+module _ (c : goal.After-map-2) where
+  each : (k : ℕ) → k < output_count → get_or c.map-ticked.result k none ≡ ticked_by c.args.n (output_at c.args.o k)
+  each k l = let h = c.map-ticked.ensures.items.at k fresh_output none l in search rules
+
+  output : (k : ℕ) → k < output_count → output_at c.map.result k ≡ (ticked_by c.args.n (output_at c.args.o k)).output
+  output k l = let h = c.map.ensures.items.at k none fresh_output l in let e = each k l in search rules
+
+  emitted : (k : ℕ) → k < output_count → get_or c.map-2.result k 0 ≡ (ticked_by c.args.n (output_at c.args.o k)).emitted
+  emitted k l = let h = c.map-2.ensures.items.at k none 0 l in let e = each k l in search rules
 
 pub returns : goal.returns
 unfolding all_ticked
-returns c =
-    let e = le_antisymm c.loop-k.auto.k-end c.loop-k-test.false in
-    rw ((rw e at c.loop-k.invariant.outputs) ∙ all_put _ output_count _ refl, (rw e at c.loop-k.invariant.emitted) ∙ all_put _ output_count _ refl)
+returns c = rw (listed_by _ fresh_output output_count c.map.result c.map.ensures.items.long (output c), listed_by _ 0 output_count c.map-2.result c.map-2.ensures.items.long (emitted c))

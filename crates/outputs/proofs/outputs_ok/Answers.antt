@@ -1,14 +1,15 @@
--- After all of them the flag is the definition's.
-use Rattle.std.proofs.Common.{add-one}
-use Rattle.std.proofs.Math.Nat.{le_antisymm}
-use Rattle.ground.specs.Below.{all_below}
-use Rattle.outputs.specs.Four.{outputs_b}
+-- The chain's answer, over the outputs with their places, is the definition's.
+use Rattle.std.proofs.Common.{rules, arith, ◌∙◌}
+use Rattle.std.proofs.lemmas.Iterator.{YieldsList-from_slice}
+use Rattle.std.proofs.lemmas.Iterator.Consumers.{YieldsList-from_enumerate}
+use Rattle.std.proofs.lemmas.Iterator.Search.{all_from_yields_List}
+use Rattle.ground.proofs.Chains.{all_places}
+use Rattle.outputs.specs.Outputs.{output_b, fresh_output}
+use Rattle.outputs.specs.Four.{output_count, rule_at, outputs_b}
 use Rattle.outputs.proofs.outputs_ok.Goals as goal
-
-pub loop-k-preserved : goal.loop-k-preserved
-unfolding all_below
-loop-k-preserved c = simp (add-one, c.both-next.ensures, c.output_ok-fine.ensures, c.rule_at-rule.ensures, c.loop-k.invariant)
 
 pub returns : goal.returns
 unfolding outputs_b
-returns c = rw (le_antisymm c.loop-k.auto.k-end c.loop-k-test.false) at c.loop-k.invariant
+returns c =
+    all_from_yields_List (λ p. output_b (rule_at c.args.a p.0) p.1) _ _ _ c.all.ensures.ran (YieldsList-from_enumerate (YieldsList-from_slice c.args.o (cc)) (cc)) (λ x b q k. search rules)
+    ∙ all_places (λ p. output_b (rule_at c.args.a p.0) p.1) fresh_output c.args.o output_count (omega arith)

@@ -1,10 +1,9 @@
-use mathlib.Core.Path.{◌≡◌}
 use Prim.Native.Nat.{◌-◌, ◌≤◌}
 use lib.ListN.{length}
 use Rattle.pace.proofs.read_full.Given as goal
 
 abbrev pub invariant-loop-held : goal.invariant-loop-held
-invariant-loop-held l = (l.held ≤ length l.input) × (length l.input ≡ length l.initial.input)
+invariant-loop-held l = l.held ≤ length l.input
 
 abbrev pub decreases-loop-held : goal.decreases-loop-held
 decreases-loop-held l = length l.input - l.held

@@ -1,14 +1,18 @@
 use Rattle.std.proofs.Common.{arith}
-use Rattle.spelling.proofs.Puts.{two, looser, retext}
+use Rattle.spelling.proofs.Appended.{two, looser, retext}
 use Rattle.text.proofs.Puts.{accepted_office, refused_office}
 use Rattle.text.proofs.echoes.office_text.Goals as goal
+use Rattle.text.proofs.echoes.office_text.Goals.{in-Ok, in-Err}
 
-pub returns-in-Accepted : goal.returns-in-Accepted
-returns-in-Accepted c =
-    retext (accepted_office c.args.p c.in-Accepted.v c.in-Accepted.is)
-    (looser 422 (omega arith) (two 126 (omega arith) c.put_decimal-others.ensures (two 106 (omega arith) c.put_others-last.ensures c.put_byte.ensures)))
-
-pub returns-in-Refused : goal.returns-in-Refused
-returns-in-Refused c =
-    retext (refused_office c.args.p c.in-Refused.n c.in-Refused.is)
-    (looser 422 (omega arith) (two 29 (omega arith) c.put_text-next.ensures (two 22 (omega arith) c.put_number-last.ensures c.put_byte-in-Refused.ensures)))
+pub returns : goal.returns
+returns c =
+    let p = c.args.parsed in
+    elim c.match-parsed.branch [
+      | in-Ok w ↦
+          let last = rw w.cursor-is at c.put_byte.ensures in
+          retext (accepted_office p w.in-Ok.v w.in-Ok.is) (looser 422 (omega arith) (two 126 (omega arith) w.put_decimal.ensures (two 106 (omega arith) w.put_others.ensures last)))
+      | in-Err w ↦
+          let last = rw w.cursor-is at c.put_byte.ensures in
+          retext (refused_office p w.in-Err.unread w.number.result w.in-Err.is w.number.ensures)
+          (looser 422 (omega arith) (two 29 (omega arith) w.put_text.ensures (two 22 (omega arith) w.put.ensures last)))
+    ]

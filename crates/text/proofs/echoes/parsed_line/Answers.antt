@@ -1,13 +1,18 @@
 use Rattle.std.proofs.Common.{arith}
-use Rattle.spelling.proofs.Puts.{two, looser, retext}
+use Rattle.spelling.proofs.Appended.{two, looser, retext}
 use Rattle.text.proofs.Puts.{accepted_line, refused_line}
 use Rattle.text.proofs.echoes.parsed_line.Goals as goal
+use Rattle.text.proofs.echoes.parsed_line.Goals.{in-Ok, in-Err}
 
-pub returns-in-Accepted : goal.returns-in-Accepted
-returns-in-Accepted c =
-    retext (accepted_line c.args.p c.in-Accepted.v c.in-Accepted.is)
-    (looser 422 (omega arith) (two 128 (omega arith) c.put_byte-next.ensures (two 127 (omega arith) c.put_number-others.ensures (two 106 (omega arith) c.put_others-last.ensures c.put_byte.ensures))))
-
-pub returns-in-Refused : goal.returns-in-Refused
-returns-in-Refused c =
-    retext (refused_line c.args.p c.in-Refused.n c.in-Refused.is) (looser 422 (omega arith) (two 21 (omega arith) c.put_decimal-next.ensures c.put_byte-in-Refused.ensures))
+pub returns : goal.returns
+returns c =
+    let p = c.args.parsed in
+    elim c.match-parsed.branch [
+      | in-Ok w ↦
+          let last = rw w.cursor-is at c.put_byte-2.ensures in
+          retext (accepted_line p w.in-Ok.v w.in-Ok.is)
+          (looser 422 (omega arith) (two 128 (omega arith) w.put_byte.ensures (two 127 (omega arith) w.put.ensures (two 106 (omega arith) w.put_others.ensures last))))
+      | in-Err w ↦
+          let last = rw w.cursor-is at c.put_byte-2.ensures in
+          retext (refused_line p w.in-Err.unread w.number.result w.in-Err.is w.number.ensures) (looser 422 (omega arith) (two 21 (omega arith) w.put_decimal.ensures last))
+    ]

@@ -1,11 +1,12 @@
 use Rattle.std.proofs.Common.{arith}
-use Rattle.text.proofs.Puts.{no_byte, byte_more}
+use Rattle.text.proofs.Puts.{no_byte, byte_more, all_bytes}
 use Rattle.text.proofs.echoes.put_hex.Goals as goal
 
-pub loop-i-init : goal.loop-i-init
-loop-i-init c = (omega arith, no_byte c.args.out.now c.args.part.now c.args.at)
+pub loop-b-init : goal.loop-b-init
+loop-b-init c = no_byte c.args.part.now c.args.cursor.now
 
-pub loop-i-preserved : goal.loop-i-preserved
-loop-i-preserved c =
-    let l = c.loop-i in
-    (omega arith, byte_more c.args.part.now l.i (omega arith) l.invariant.1 c.put_pair-next.ensures)
+pub loop-b-preserved : goal.loop-b-preserved
+loop-b-preserved c = let l = c.loop-b in byte_more c.args.part.now l.b-index (omega arith) l.invariant c.put_digits.ensures
+
+pub returns : goal.returns
+returns c = let l = c.loop-b in all_bytes c.args.part.now l.b-index (omega arith) l.invariant

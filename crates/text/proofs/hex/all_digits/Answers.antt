@@ -1,9 +1,13 @@
-use Rattle.std.proofs.Common.{arith, sym}
-use Rattle.text.proofs.Digits.{no_digit_at, not_all}
+use Rattle.std.proofs.Common.{◌∙◌, rules}
+use Rattle.std.proofs.lemmas.Iterator.{YieldsList-from_slice}
+use Rattle.std.proofs.lemmas.Iterator.Search.{all_from_yields_List}
+use Rattle.std.specs.Prelude.{nat_lt}
+use borrow.Author.Tests.{tests}
+use Rattle.spelling.specs.Spelling.{digit_of}
+use Rattle.text.proofs.Digits.{digits_all}
 use Rattle.text.proofs.hex.all_digits.Goals as goal
 
-pub returns-then-d-ge-BASE : goal.returns-then-d-ge-BASE
-returns-then-d-ge-BASE c =
-    let w = c.args.w.now in
-    let i = c.loop-i.i in
-    sym (not_all 16 w i (omega arith) (no_digit_at 16 w i c.digit_of-d.ensures c.if-d-ge-BASE.true))
+pub returns : goal.returns
+returns c =
+    all_from_yields_List (λ b. nat_lt (digit_of b) 16) _ _ _ c.all.ensures.ran (YieldsList-from_slice c.args.w.now (cc)) (λ x b q k. search (rules, tests))
+    ∙ digits_all c.args.w.now

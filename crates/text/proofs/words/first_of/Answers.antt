@@ -1,10 +1,14 @@
-use Rattle.std.proofs.Common.{◌≡◌, length, arith, sym, ◌∙◌}
-use Rattle.text.proofs.Bytes.{at_end}
+use Rattle.std.proofs.Common.{◌∙◌, ap, length, rules}
+use Rattle.std.proofs.lemmas.Iterator.{YieldsList-from_slice}
+use Rattle.std.proofs.lemmas.Iterator.Search.{position_from_yields_List}
+use Rattle.std.specs.Prelude.{◌==◌}
+use Rattle.std.specs.Option.{unwrap_or}
+use borrow.Author.Tests.{tests}
+use Rattle.text.proofs.Bytes.{first_or}
 use Rattle.text.proofs.words.first_of.Goals as goal
 
 pub returns : goal.returns
 returns c =
     let s = c.args.s.now in
-    let i = c.loop-i.i in
-    let e : i ≡ length s = omega arith in
-    sym (c.loop-i.invariant.1 ∙ rw (e, at_end c.args.b s) (omega arith))
+    let found = position_from_yields_List (λ x. x == c.args.b) _ _ c.position.result c.position.ensures.ran (YieldsList-from_slice s (cc)) (λ x b q k. search (rules, tests)) in
+    c.unwrap_or.ensures ∙ ap (λ o. unwrap_or o (length s)) found ∙ first_or c.args.b s

@@ -1,0 +1,2 @@
+-- Of the number of a refusal.
+pub mod Refused

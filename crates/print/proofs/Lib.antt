@@ -1,2 +1,0 @@
--- Laws that no one function owns.
-pub mod Steps

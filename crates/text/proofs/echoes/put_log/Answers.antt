@@ -1,8 +1,0 @@
-use Rattle.std.proofs.Common.{arith}
-use Rattle.text.specs.Echoes.{log_words}
-use Rattle.text.proofs.Puts.{word, rows}
-use Rattle.text.proofs.echoes.put_log.Goals as goal
-
-pub returns : goal.returns
-unfolding log_words
-returns c = rows _ _ 63 (omega arith) (word c.put_number-second.ensures) (rows _ _ 42 (omega arith) (word c.put_number-third.ensures) (word c.put_number.ensures))
