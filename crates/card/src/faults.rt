@@ -7,7 +7,7 @@ use print::Out;
 use reader::Unread;
 use ring::{ARCHIVE_LINES, AUDIT_LINES, LOG_LINES};
 use settings::table::LOCKS;
-use state::faults::Fault;
+use state::faults::{DONE, Fault};
 use std::fmt::Display;
 use std::io::Write;
 use std::{fmt, io};
@@ -132,7 +132,7 @@ impl Display for Words {
 
 // What the device answers.
 fn of_the_device(out: &mut Out) -> io::Result<()> {
-    writeln!(out, "| 0 | Done | Nothing |")?;
+    writeln!(out, "| {DONE} | Done | Nothing |")?;
     for fault in FAULTS {
         writeln!(out, "| {} | {} |", fault.number(), Words(fault))?;
     }

@@ -7,7 +7,6 @@ ghost use Rattle.state.specs.Card.{number_of};
 ghost use Rattle.commands.specs.Answers.{plain, giving, answered};
 
 use message::Values;
-use reader::Unread;
 use state::{Fault, State};
 
 // What a cycle brings: a time, a pulse count n, and three readings. The raw temperature and the pressure, in pascals, are None if the sensor failed; K, in
@@ -105,7 +104,8 @@ pub struct Answer {
 }
 
 // What a line of input asks for: nothing (it is empty or a comment), something unknown, a new device in the place of this one, a command, or that a message be read. The
-// reader needs no device, so its answer stands here already.
+// reader needs no device, so its answer stands here already: the values, or the number of the refusal.
+// Stays: a number here and in `Echo`, as in `Reply`, since the number is what is printed, and the line is promised for any number.
 #[derive(Clone, Copy)]
 pub enum Entry {
     Nothing,
@@ -116,7 +116,7 @@ pub enum Entry {
         custcode: u32,
     },
     Put(Command),
-    Parse(Result<Values, Unread>),
+    Parse(Result<Values, u64>),
 }
 
 // What is said to a line.
@@ -125,7 +125,7 @@ pub enum Echo {
     Nothing,
     Unknown,
     Said(Reply),
-    Parse(Result<Values, Unread>),
+    Parse(Result<Values, u64>),
 }
 
 // ---- answers

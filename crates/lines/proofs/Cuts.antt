@@ -11,7 +11,7 @@ use Rattle.std.proofs.lemmas.List.Recursion.{is_position_or_len}
 use mathlib.Core.List.{List, [], ◌∷◌, ◌++◌, map, map-append, append_assoc}
 use lib.Dec.{eqb, ltb}
 use borrow.Author.Tests.{ltb-true, ltb-false}
-use lib.ListN.{length, take, drop, set, replicate, length-append, length-map, length-drop, length-take}
+use lib.ListN.{length, take, drop, set, replicate, length-append, length-map, length-drop, length-take, drop_of_length-le}
 use lib.Seq.{take-add, drop-drop, take_all, set_at, length-take-le}
 use Rattle.text.specs.Words.{first_of}
 use Rattle.commands.specs.declared.Entry.{Entry}
@@ -108,6 +108,13 @@ others (suc k) l = by_test (ltb (first_of line_feed l) (length l)) refl (others 
 pub others_left : (input : List ℕ) → whole_lines (drop (inputs_in input).at input) ≡ drop block (whole_lines input)
 unfolding inputs_in inputs_of
 others_left input = others block input
+
+-- what is left holds no whole line unless the block is full
+pub none_left : (input : List ℕ) → (inputs_in input).count < block → whole_lines (drop (inputs_in input).at input) ≡ []
+unfolding inputs_in inputs_of
+none_left input h =
+    let few : length (whole_lines input) ≤ block = omega (arith, length-take block (whole_lines input)) in
+    others block input ∙ drop_of_length-le (whole_lines input) few
 
 -- ---- the loop after some turns
 

@@ -74,6 +74,10 @@ all_echoed old responses out used k roomy q r e =
           ∙ ap (λ (a : List ℕ). echo_lines responses ++ a) r.past;
     }
 
+-- what was put at the front lies within
+pub fronted_within : {old new text : List ℕ} {used : ℕ} → Fronted old new text used → used ≤ length new
+fronted_within {old} {new} {text} {used} f = omega (arith, f.many, ap length f.stands, length-append text (drop used old))
+
 -- ---- lines answered
 
 pub none_served : (d : Desk) (input out : List ℕ) → length out < room

@@ -106,7 +106,7 @@ write 3 30 c 7ff0000000000000
 ";
 
 pub fn every(out: &mut Out, s: State) -> io::Result<()> {
-    each(out, ACCEPTED, s, Lines::EXACT)
+    each(out, ACCEPTED.as_bytes(), s, Lines::EXACT)
 }
 
 pub fn all(out: &mut Out, s: State, lines: Lines) -> io::Result<()> {
@@ -119,7 +119,7 @@ pub fn all(out: &mut Out, s: State, lines: Lines) -> io::Result<()> {
         SESSIONS,
         WRITES,
     ] {
-        each(out, list, s, lines)?;
+        each(out, list.as_bytes(), s, lines)?;
     }
     Ok(())
 }

@@ -26,7 +26,12 @@ start 18446744073709551615 5 6
 // A refused start gives what a start at time 0 with codes 0 gives.
 fn starts(out: &mut Out) -> io::Result<()> {
     writeln!(out, "started at 0 with codes 0")?;
-    each(out, STARTS, panel::start(0, 0, 0).state, Lines::EXACT)
+    each(
+        out,
+        STARTS.as_bytes(),
+        panel::start(0, 0, 0).state,
+        Lines::EXACT,
+    )
 }
 
 // No whole device counts 10^17 in one cycle of at most 600 pulses, so 14 comes only where the state is not whole.

@@ -5,7 +5,7 @@
 ghost use Rattle.std.specs.Prelude.{◌≡◌, ◌≤◌, length, IfOk};
 ghost use Rattle.spelling.specs.Spelling.{Put};
 ghost use Rattle.reader.specs.Reader.{parsed};
-ghost use Rattle.text.specs.Echoes.{office_for};
+ghost use Rattle.text.specs.Echoes.{by_number, office_for};
 
 use std::io;
 use std::io::Read;
@@ -29,10 +29,12 @@ fn capture(rt: &HostRuntime, input: &mut [u8]) -> io::Result<usize>
 }
 
 // Puts the answer at the front of `out`.
+#[tactic(auto, unfolding(text::specs::Echoes::by_number))]
 fn answer(captured: &[u8], out: &mut [u8]) -> usize
-    ensures { Put 422 out.old out.new 0 result (office_for out.old (parsed captured.now)) }
+    ensures { Put 422 out.old out.new 0 result (office_for out.old (by_number (parsed captured.now))) }
 {
-    text::echoes::office_line(out, reader::parse(captured))
+    let read = reader::parse(captured).map_err(|unread| unread.number());
+    text::echoes::office_line(out, read)
 }
 
 fn main(rt: HostRuntime) {

@@ -4,6 +4,7 @@ use Rattle.std.proofs.Common.{◌≡◌, ℕ, zero, suc, ◌*◌, ◌/◌, ◌<�
 use native.Mathlib.Nat.{div-zero}
 use lib.ListN.{get_or-eq_default}
 use Rattle.ground.specs.Ranges.{most_weight}
+use Rattle.ground.proofs.Table.{NoneFrom, past}
 use Rattle.units.specs.declared.Counter.{Counter}
 use Rattle.units.specs.declared.Counter.TheVariants.{Vm, VmD, VmT, Vb, VbD, VbT}
 use Rattle.units.specs.Units.{litre_at_base, put_by}
@@ -17,9 +18,15 @@ use Rattle.outputs.specs.Plan.{most_account}
 -- ---- no choice
 
 -- past the last choice nothing is followed
-pub none_is : (c : ℕ) → most_choice < c → followed c ≡ None
+pub past_choices : (c : ℕ) → most_choice < c → followed c ≡ None
 unfolding followed choices
-none_is c h = get_or-eq_default choices None {n = c} (omega arith)
+past_choices c h = get_or-eq_default choices None {n = c} (omega arith)
+
+-- nor by any other number that is no choice
+pub none_is : (c : ℕ) → NoneFrom 1 c most_choice → followed c ≡ None
+unfolding followed choices
+none_is zero h = refl
+none_is (suc c) h = past_choices (suc c) (past 1 (suc c) most_choice (omega arith) h)
 
 -- ---- a counter that is followed
 

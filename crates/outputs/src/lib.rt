@@ -100,7 +100,7 @@ pub struct Shown {
 // ---- choice and weight
 
 // The counter that a choice follows. A broken state may have any number as a choice: one above 6 follows nothing.
-#[tactic(auto, using(crate::proofs::Choices::none_is), unfolding(crate::specs::Outputs::choices, crate::specs::Outputs::followed))]
+#[tactic(auto, using(crate::proofs::Choices::past_choices), unfolding(crate::specs::Outputs::choices, crate::specs::Outputs::followed))]
 fn followed(choice: u64) -> Option<Counter>
     ensures { result ≡ followed choice }
 {

@@ -22,8 +22,6 @@ use Rattle.std.specs.List.{flat_map}
 use Rattle.text.specs.Echoes.{places_up_to, places, decimal, spaced, signed, bits_of, joined, value_words, hexed, given_words, separated, litres_words, other_words, parsed_text, office_text, office_for, echo_text, enough, text_for}
 use Rattle.message.specs.declared.Values.{Values}
 use Rattle.std.specs.Prelude.{Result, Ok, Err}
-use Rattle.reader.specs.declared.Unread.{Unread}
-use Rattle.reader.specs.Reader.{number_of}
 use Rattle.commands.specs.declared.Given.{Given}
 use Rattle.commands.specs.declared.Echo.{Echo}
 use lib.Ieee.{Float}
@@ -117,17 +115,17 @@ hexed_more l i h =
     let more : take (i + 1) l ≡ take i l ++ (get_or l i 0 ∷ []) = rw (add-one i) (take-suc l i 0 h) in
     sym (ap hexed more ∙ hexed_both (take i l) (get_or l i 0 ∷ []) ∙ ap (λ (r : List ℕ). hexed (take i l) ++ r) (append-nil (digits 16 2 (get_or l i 0))))
 
-pub no_byte : (part : List ℕ) (c : Cursor) → Appends 0 c c (hexed (take 0 part))
+pub no_byte : (old l : List ℕ) (at : ℕ) → Put 0 old old at at (hexed (take 0 l))
 unfolding hexed
-no_byte part c = nothing_put 0 c
+no_byte old l at = puts.nothing_put 0 old at
 
 -- one byte more
-pub byte_more : {old mid new : Cursor} (l : List ℕ) (i : ℕ) → i < length l → Appends (i * 2) old mid (hexed (take i l)) → Appends 2 mid new (digits 16 2 (get_or l i 0))
-    → Appends ((i + 1) * 2) old new (hexed (take (i + 1) l))
-byte_more l i h p q = retext (hexed_more l i h) (two ((i + 1) * 2) (omega arith) p q)
+pub byte_more : {old mid new : List ℕ} {at next last : ℕ} (l : List ℕ) (i : ℕ) → i < length l → Put (i * 2) old mid at next (hexed (take i l)) → Put 2 mid new next last (digits 16 2 (get_or l i 0))
+    → Put ((i + 1) * 2) old new at last (hexed (take (i + 1) l))
+byte_more l i h p q = puts.retext (hexed_more l i h) (puts.two ((i + 1) * 2) (omega arith) p q)
 
-pub all_bytes : {old new : Cursor} (l : List ℕ) (i : ℕ) → i ≡ length l → Appends (i * 2) old new (hexed (take i l)) → Appends (length l * 2) old new (hexed l)
-all_bytes l i e p = rw e at (rw (take_all i l (omega arith)) at p)
+pub all_bytes : {old new : List ℕ} {at next : ℕ} (l : List ℕ) → Put (length l * 2) old new at next (hexed (take (length l) l)) → Put (length l * 2) old new at next (hexed l)
+all_bytes l p = puts.retext (ap hexed (take_all (length l) l (le_refl (length l)))) p
 
 -- ---- lines
 
@@ -147,34 +145,34 @@ echo_kept old at e h = puts.retext (little_room old at e (omega arith)) (puts.no
 
 -- ---- a message that was read
 
-pub accepted_line : (p : Result Values Unread) (v : Values) → p ≡ Ok v → (48 ∷ []) ++ (joined (decimal v.vb ∷ []) ++ (joined (other_words v) ++ (10 ∷ []))) ≡ parsed_text p
+pub accepted_line : (p : Result Values ℕ) (v : Values) → p ≡ Ok v → (48 ∷ []) ++ (joined (decimal v.vb ∷ []) ++ (joined (other_words v) ++ (10 ∷ []))) ≡ parsed_text p
 unfolding parsed_text separated litres_words joined
 accepted_line p v e = rw (e, append-nil (decimal v.vb)) (ap (λ (l : List ℕ). 48 ∷ l) (sym (append_assoc (spaced (decimal v.vb)) (joined (other_words v)) (10 ∷ []))))
 
-pub refused_line : (p : Result Values Unread) (r : Unread) (n : ℕ) → p ≡ Err r → n ≡ number_of r → decimal n ++ (10 ∷ []) ≡ parsed_text p
+pub refused_line : (p : Result Values ℕ) (n : ℕ) → p ≡ Err n → decimal n ++ (10 ∷ []) ≡ parsed_text p
 unfolding parsed_text
-refused_line p r n e h = rw (e, h)
+refused_line p n e = rw e
 
-pub accepted_office : (p : Result Values Unread) (v : Values) → p ≡ Ok v → decimal v.vb ++ (joined (other_words v) ++ (10 ∷ [])) ≡ office_text p
+pub accepted_office : (p : Result Values ℕ) (v : Values) → p ≡ Ok v → decimal v.vb ++ (joined (other_words v) ++ (10 ∷ [])) ≡ office_text p
 unfolding office_text separated litres_words
 accepted_office p v e = rw e (sym (append_assoc (decimal v.vb) (joined (other_words v)) (10 ∷ [])))
 
-pub refused_office : (p : Result Values Unread) (r : Unread) (n : ℕ) → p ≡ Err r → n ≡ number_of r → bytes "refused" ++ (joined (decimal n ∷ []) ++ (10 ∷ [])) ≡ office_text p
+pub refused_office : (p : Result Values ℕ) (n : ℕ) → p ≡ Err n → bytes "refused" ++ (joined (decimal n ∷ []) ++ (10 ∷ [])) ≡ office_text p
 unfolding office_text separated
-refused_office p r n e h = rw (e, h)
+refused_office p n e = rw e
 
-pub little_office : (old : List ℕ) (p : Result Values Unread) → length old < enough → [] ≡ office_for old p
+pub little_office : (old : List ℕ) (p : Result Values ℕ) → length old < enough → [] ≡ office_for old p
 unfolding office_for
 little_office old p h = rw (lt-ltb (length old) enough h)
 
-pub office_for_lem : (old : List ℕ) (p : Result Values Unread) → enough ≤ length old → office_text p ≡ office_for old p
+pub office_for_lem : (old : List ℕ) (p : Result Values ℕ) → enough ≤ length old → office_text p ≡ office_for old p
 unfolding office_for
 office_for_lem old p h = rw (le-ltb (length old) enough h)
 
-pub office_put : (old new : List ℕ) (next : ℕ) (p : Result Values Unread) → enough ≤ length old → Put 422 old new 0 next (office_text p) → Put 422 old new 0 next (office_for old p)
+pub office_put : (old new : List ℕ) (next : ℕ) (p : Result Values ℕ) → enough ≤ length old → Put 422 old new 0 next (office_text p) → Put 422 old new 0 next (office_for old p)
 office_put old new next p h q = puts.retext (office_for_lem old p h) q
 
-pub office_kept : (old : List ℕ) (p : Result Values Unread) → length old < enough → Put 422 old old 0 0 (office_for old p)
+pub office_kept : (old : List ℕ) (p : Result Values ℕ) → length old < enough → Put 422 old old 0 0 (office_for old p)
 office_kept old p h = puts.retext (little_office old p h) (puts.nothing_put 422 old 0)
 
 -- ---- digits by the power of ten

@@ -24,7 +24,7 @@ use Rattle.commands.specs.declared.Entry.TheVariants as entry
 use Rattle.reader.specs.Reader.{parsed}
 use Rattle.reader.proofs.Compared as reader
 use Rattle.text.specs.Numbers.{digit_at}
-use Rattle.text.specs.Echoes.{hexed}
+use Rattle.text.specs.Echoes.{hexed, by_number}
 use Rattle.text.specs.Words.{space, first_of, after_word, place, word_between, word, no_word}
 use Rattle.text.specs.Hex.{is_hexed, unhexed, parse_asked}
 use Rattle.text.specs.Entries.{longest, is_quiet, word_or, entry_in, entry_of}
@@ -153,8 +153,8 @@ module _ (w : List ℕ) (t : is_hexed w ≡ true) (few : length w ≤ 494) where
       let none = no_space w (λ k h. each_digit w k (hexed_digits w t) h) in
       rw (le-ltb (length typed) 0 (omega arith), le-ltb (length typed) 6 (omega (arith, long)), none)
 
-  -- THE LINE `parse HEX` is answered by what the reader says of the bytes that its digits spell
-  pub parse_line : entry_of typed ≡ entry.Parse (parsed (unhexed w))
+  -- THE LINE `parse HEX` is answered by what the reader says of the bytes that its digits spell, a refusal by its number
+  pub parse_line : entry_of typed ≡ entry.Parse (by_number (parsed (unhexed w)))
   unfolding entry_of is_quiet entry_in word_or parse_asked same_b word word_between no_word
   parse_line =
       let some : length typed ≡ 0 → ⊥ = λ e. omega (arith, long) in

@@ -158,15 +158,20 @@ other_words v = number_words v.vbd v.vbt v.vm v.vmd ++ (decimal v.vmt ∷ [])
 unfoldable pub litres_words : Values → List (List ℕ)
 litres_words v = decimal v.vb ∷ other_words v
 
--- `0` and the values, or the number of the refusal
-unfoldable pub parsed_text : Result Values Unread → List ℕ
+-- what the reader says, a refusal by its number on the fault card
+unfoldable pub by_number : Result Values Unread → Result Values ℕ
+by_number (Ok v) = Ok v
+by_number (Err e) = Err (number_of e)
+
+-- `0` and the values, or the number of the refusal, whichever it is
+unfoldable pub parsed_text : Result Values ℕ → List ℕ
 parsed_text (Ok v) = separated (bytes "0" ∷ litres_words v) ++ bytes "\n"
-parsed_text (Err e) = decimal (number_of e) ++ bytes "\n"
+parsed_text (Err n) = decimal n ++ bytes "\n"
 
 -- what the office's program prints: "the six values in litres with single spaces and a line feed, or `refused `, the number and a line feed"
-unfoldable pub office_text : Result Values Unread → List ℕ
+unfoldable pub office_text : Result Values ℕ → List ℕ
 office_text (Ok v) = separated (litres_words v) ++ bytes "\n"
-office_text (Err e) = separated (bytes "refused" ∷ decimal (number_of e) ∷ []) ++ bytes "\n"
+office_text (Err n) = separated (bytes "refused" ∷ decimal n ∷ []) ++ bytes "\n"
 
 -- ---- lines
 
@@ -204,5 +209,5 @@ enough = 422
 unfoldable pub text_for : List ℕ → ℕ → Echo → List ℕ
 text_for out at e = cond (ltb (length out) (at + enough)) [] (echo_text e)
 
-unfoldable pub office_for : List ℕ → Result Values Unread → List ℕ
+unfoldable pub office_for : List ℕ → Result Values ℕ → List ℕ
 office_for out p = cond (ltb (length out) enough) [] (office_text p)

@@ -6,6 +6,7 @@ use Rattle.spelling.specs.Spelling.{digit_of}
 use Rattle.reader.specs.Reader.{parsed}
 use Rattle.commands.specs.declared.Entry.{Entry}
 use Rattle.commands.specs.declared.Entry.TheVariants as entry
+use Rattle.text.specs.Echoes.{by_number}
 use Rattle.text.specs.Numbers.{digit_at}
 
 -- "an even number of lower-case hexadecimal digits, at least two"
@@ -20,4 +21,4 @@ unhexed (a ∷ b ∷ w) = (16 * digit_of a + digit_of b) ∷ unhexed w
 
 -- "answers `0 V1 V2 V3 V4 V5 V6`, or 17, or 18": what the reader says of these bytes. "It touches no device."
 unfoldable pub parse_asked : List ℕ → Entry
-parse_asked w = cond (is_hexed w) (entry.Parse (parsed (unhexed w))) entry.Unknown
+parse_asked w = cond (is_hexed w) (entry.Parse (by_number (parsed (unhexed w)))) entry.Unknown

@@ -10,7 +10,6 @@ use books::{ArchiveLine, AuditLine, LogLine};
 use commands::{Echo, Given, Last, Readout, Reply};
 use message::Values;
 use outputs::Shown;
-use reader::Unread;
 use settings::Value;
 use spelling::cursor::Cursor;
 use state::Moment;
@@ -249,14 +248,25 @@ impl Words for Moment {
     }
 }
 
-// Two digits a byte.
+// Two digits a byte. The bytes are lent once for the whole part: so no digit asks for the room again.
+fn hex_into(out: &mut [u8], at: usize, part: &[u8]) -> usize
+    requires { at + length part.now * 2 ≤ length out.old }
+    ensures { Put (length part.now * 2) out.old out.new at result (hexed part.now) }
+{
+    let mut next = at;
+    for &b in part {
+        let end = next + 2;
+        spelling::digits_into(&mut out[next..end], 16, b as u64);
+        next = end;
+    }
+    next
+}
+
 fn put_hex(cursor: &mut Cursor<'_>, part: &[u8])
     requires { HasRoom (length part.now * 2) cursor.old }
     ensures { Appends (length part.now * 2) cursor.old cursor.new (hexed part.now) }
 {
-    for &b in part {
-        put_digits(cursor, 16, 2, b as u64);
-    }
+    cursor.at = hex_into(cursor.out, cursor.at, part);
 }
 
 // The whole buffer that is lent, with the message in it.
@@ -331,7 +341,7 @@ fn put_others(cursor: &mut Cursor<'_>, v: Values)
     put_all(cursor, &[v.vbd, v.vbt, v.vm, v.vmd, v.vmt]);
 }
 
-fn parsed_line(cursor: &mut Cursor<'_>, parsed: Result<Values, Unread>)
+fn parsed_line(cursor: &mut Cursor<'_>, parsed: Result<Values, u64>)
     requires { HasRoom 422 cursor.old }
     ensures { Appends 422 cursor.old cursor.new (parsed_text parsed) }
 {
@@ -341,12 +351,12 @@ fn parsed_line(cursor: &mut Cursor<'_>, parsed: Result<Values, Unread>)
             v.vb.put(cursor);
             put_others(cursor, v);
         }
-        Err(unread) => put_decimal(cursor, unread.number()),
+        Err(number) => put_decimal(cursor, number),
     }
     put_byte(cursor, LINE_FEED);
 }
 
-fn office_text(cursor: &mut Cursor<'_>, parsed: Result<Values, Unread>)
+fn office_text(cursor: &mut Cursor<'_>, parsed: Result<Values, u64>)
     requires { HasRoom 422 cursor.old }
     ensures { Appends 422 cursor.old cursor.new (office_text parsed) }
 {
@@ -355,9 +365,9 @@ fn office_text(cursor: &mut Cursor<'_>, parsed: Result<Values, Unread>)
             put_decimal(cursor, v.vb);
             put_others(cursor, v);
         }
-        Err(unread) => {
+        Err(number) => {
             put_text(cursor, b"refused");
-            unread.number().put(cursor);
+            number.put(cursor);
         }
     }
     put_byte(cursor, LINE_FEED);
@@ -365,7 +375,7 @@ fn office_text(cursor: &mut Cursor<'_>, parsed: Result<Values, Unread>)
 
 // What the office's program prints, at the front. Puts nothing if there is less than ROOM.
 #[tactic(auto, using(crate::proofs::Puts::office_put, crate::proofs::Puts::office_kept))]
-pub fn office_line(out: &mut [u8], parsed: Result<Values, Unread>) -> usize
+pub fn office_line(out: &mut [u8], parsed: Result<Values, u64>) -> usize
     ensures { Put 422 out.old out.new 0 result (office_for out.old parsed) }
 {
     if out.len() < ROOM {

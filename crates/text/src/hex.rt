@@ -66,12 +66,13 @@ fn parse(w: &[u8]) -> Result<Values, Unread>
     reader::parse(&buffer[0..n])
 }
 
-#[tactic(auto, using(crate::proofs::Unhexed::hexed_digits), unfolding(crate::specs::Hex::parse_asked))]
+// A refusal goes into the entry by its number.
+#[tactic(auto, using(crate::proofs::Unhexed::hexed_digits), unfolding(crate::specs::Hex::parse_asked, crate::specs::Echoes::by_number))]
 pub fn parse_asked(w: &[u8]) -> Entry
     ensures { result ≡ parse_asked w.now }
 {
     if is_hexed(w) {
-        Entry::Parse(parse(w))
+        Entry::Parse(parse(w).map_err(|unread| unread.number()))
     } else {
         Entry::Unknown
     }

@@ -6,9 +6,11 @@ use crate::{change, lend, stores};
 use commands::{Answer, Command, Entry, Given};
 use print::Out;
 use state::State;
+use state::faults::DONE;
 use std::fmt::Display;
 use std::io::Write;
 use std::{fmt, io};
+use text::words::LINE_FEED;
 
 // What has become of the state and the stores. If only a session has ended, its door is named.
 #[derive(Clone, Copy, PartialEq, Eq)]
@@ -114,8 +116,8 @@ fn outcome_of(s: State, e: Entry, lines: Lines) -> Outcome {
         Entry::Put(c) => put(s, c, lines),
         Entry::Parse(read) => Outcome::Answered {
             number: match read {
-                Ok(_) => 0,
-                Err(unread) => unread.number(),
+                Ok(_) => DONE,
+                Err(number) => number,
             },
             fate: Fate::Same,
             gives: false,
@@ -123,11 +125,18 @@ fn outcome_of(s: State, e: Entry, lines: Lines) -> Outcome {
     }
 }
 
-// Every line of the list.
-pub fn each(out: &mut Out, list: &str, s: State, lines: Lines) -> io::Result<()> {
-    for line in list.lines() {
-        let entry = text::entries::entry_of(line.as_bytes());
-        writeln!(out, "  {line}: {}", outcome_of(s, entry, lines))?;
+// Every line of the list that has its line feed.
+pub fn each(out: &mut Out, list: &[u8], s: State, lines: Lines) -> io::Result<()> {
+    for part in list.split_inclusive(|b| *b == LINE_FEED) {
+        if let Some(line) = part.strip_suffix(&[LINE_FEED]) {
+            out.write_all(b"  ")?;
+            out.write_all(line)?;
+            writeln!(
+                out,
+                ": {}",
+                outcome_of(s, text::entries::entry_of(line), lines)
+            )?;
+        }
     }
     Ok(())
 }

@@ -126,6 +126,14 @@ pub fn whole(n: i64) -> Setting {
     }
 }
 
+// One below what the row of a whole number allows.
+fn one_below(k: usize) -> i64 {
+    match row_of(k).range {
+        Some(range) => range.lowest.saturating_sub(1),
+        None => 0,
+    }
+}
+
 fn pairs(out: &mut Out) -> io::Result<()> {
     for (p_min, p_max, t_min, t_max) in [
         (90_000, 700_000, -2_000, 6_000),
@@ -137,7 +145,7 @@ fn pairs(out: &mut Out) -> io::Result<()> {
         (90_000, 700_000, 6_000, 6_000),
         (90_000, 700_000, -2_000, -2_001),
         // In order, but one below its range.
-        (9_999, 700_000, -2_000, 6_000),
+        (one_below(P_MIN), 700_000, -2_000, 6_000),
     ] {
         let mut values = settings::factory_settings();
         values[P_MIN] = whole(p_min);

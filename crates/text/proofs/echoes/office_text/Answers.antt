@@ -13,6 +13,6 @@ returns c =
           retext (accepted_office p w.in-Ok.v w.in-Ok.is) (looser 422 (omega arith) (two 126 (omega arith) w.put_decimal.ensures (two 106 (omega arith) w.put_others.ensures last)))
       | in-Err w ↦
           let last = rw w.cursor-is at c.put_byte.ensures in
-          retext (refused_office p w.in-Err.unread w.number.result w.in-Err.is w.number.ensures)
+          retext (refused_office p w.in-Err.number w.in-Err.is)
           (looser 422 (omega arith) (two 29 (omega arith) w.put_text.ensures (two 22 (omega arith) w.put.ensures last)))
     ]

@@ -14,5 +14,5 @@ returns c =
           (looser 422 (omega arith) (two 128 (omega arith) w.put_byte.ensures (two 127 (omega arith) w.put.ensures (two 106 (omega arith) w.put_others.ensures last))))
       | in-Err w ↦
           let last = rw w.cursor-is at c.put_byte-2.ensures in
-          retext (refused_line p w.in-Err.unread w.number.result w.in-Err.is w.number.ensures) (looser 422 (omega arith) (two 21 (omega arith) w.put_decimal.ensures last))
+          retext (refused_line p w.in-Err.number w.in-Err.is) (looser 422 (omega arith) (two 21 (omega arith) w.put_decimal.ensures last))
     ]
